@@ -1,4 +1,4 @@
--- Slots that are probed one after another: their marks, what they hold, and a table of them.
+-- Buckets that are probed one after another: their marks, what they hold, and a table of them.
 pub mod Circle
 pub mod Runs
 pub mod Marks

@@ -9,7 +9,7 @@ use Rattle.concurrent_lru.specs.Relinks.{NodeCell, NodeCells}
 use Rattle.concurrent_lru.specs.SlotPointers.{cells_of}
 use Rattle.concurrent_lru.specs.declared.node_table.Node.{Node}
 use Rattle.concurrent_lru.specs.declared.node_table.memory.At.{At}
-use Rattle.concurrent_lru.specs.declared.node_table.probes.Slot.{Slot}
+use Rattle.concurrent_lru.specs.declared.node_table.probes.Bucket.{Bucket}
 use Rattle.concurrent_lru.specs.declared.node_table.slots.Slots.{Slots}
 
 -- x, unless the condition holds
@@ -19,11 +19,11 @@ unless false x = Some x
 
 module _ {K V : Type 0} where
   -- the entry of the hash table for a node
-  abbrev pub listing : NodeCell K V → Slot (At (Node K V))
+  abbrev pub listing : NodeCell K V → Bucket (At (Node K V))
   listing c = entry (mark_of (hash_of c.value)) (record { ptr = c.at })
 
   -- the entry for the node in a slot, if there is one and it is not detached
-  abbrev pub listing_in : Option (NodeCell K V) → Option (Slot (At (Node K V)))
+  abbrev pub listing_in : Option (NodeCell K V) → Option (Bucket (At (Node K V)))
   listing_in None = None
   listing_in (Some c) = unless (entry_of c.value).detached (listing c)
 
@@ -35,24 +35,24 @@ module _ {K V : Type 0} where
   abbrev pub KeepsListings : NodeCells K V → NodeCells K V → Type 0
   KeepsListings cs ds = (k : ℕ) → (hash_in (cell_at ds k) ≡ hash_in (cell_at cs k)) × (listing_in (cell_at ds k) ≡ listing_in (cell_at cs k))
 
-  abbrev pub listing_at : Slots K V → ℕ → Option (Slot (At (Node K V)))
+  abbrev pub listing_at : Slots K V → ℕ → Option (Bucket (At (Node K V)))
   listing_at s slot = listing_in (cell_at (cells_of s) slot)
 
   -- the hash table has the entries of the nodes that are not detached, and no others
   pub record IsListed (s : Slots K V) : Type 0 where
-    pub listed : (slot : ℕ) (e : Slot (At (Node K V))) → listing_at s slot ≡ Some e → Has s.by_hash e
-    pub led : (e : Slot (At (Node K V))) → Has s.by_hash e → (slot : ℕ) × (listing_at s slot ≡ Some e)
+    pub listed : (slot : ℕ) (e : Bucket (At (Node K V))) → listing_at s slot ≡ Some e → Has s.by_hash e
+    pub led : (e : Bucket (At (Node K V))) → Has s.by_hash e → (slot : ℕ) × (listing_at s slot ≡ Some e)
 
   -- the same, as if the node in this slot were not there
   pub record IsListedBut (s : Slots K V) (but : ℕ) : Type 0 where
-    pub listed : (slot : ℕ) (e : Slot (At (Node K V))) → slot ≢ but → listing_at s slot ≡ Some e → Has s.by_hash e
-    pub led : (e : Slot (At (Node K V))) → Has s.by_hash e → (slot : ℕ) × (slot ≢ but) × (listing_at s slot ≡ Some e)
+    pub listed : (slot : ℕ) (e : Bucket (At (Node K V))) → slot ≢ but → listing_at s slot ≡ Some e → Has s.by_hash e
+    pub led : (e : Bucket (At (Node K V))) → Has s.by_hash e → (slot : ℕ) × (slot ≢ but) × (listing_at s slot ≡ Some e)
 
   -- how many more nodes fit without allocating
   abbrev pub spare_of : Slots K V → ℕ
   spare_of s = min (s.pointers.capacity - slab_len s.pointers) (capacity s.by_hash - count s.by_hash)
 
-  -- the slot k of the hash table leads to the node n
+  -- the bucket k of the hash table leads to the node n
   pub record LeadsToCandidate (s : Slots K V) (k : ℕ) (n : Node K V) : Type 0 where
     pub slot : ℕ
     pub cell : NodeCell K V
@@ -61,9 +61,9 @@ module _ {K V : Type 0} where
     pub found : (entry_of cell.value).detached ≡ false
     pub holds : Holds s.by_hash k (listing cell)
 
-  -- the slot k of the hash table has the entry of the node in this slot
+  -- the bucket k of the hash table has the entry of the node in this slot
   abbrev pub HoldsSlot : Slots K V → ℕ → ℕ → Type 0
-  HoldsSlot s k slot = (e : Slot (At (Node K V))) × (listing_at s slot ≡ Some e) × Holds s.by_hash k e
+  HoldsSlot s k slot = (e : Bucket (At (Node K V))) × (listing_at s slot ≡ Some e) × Holds s.by_hash k e
 
   -- the node in the slot has another hash, or is detached
   abbrev pub LacksSlot : Slots K V → ℕ → ℕ → Type 0

@@ -262,8 +262,8 @@ impl<'a, K: Hash + Eq + Clone + Drop, V: Drop, R: Wait, F: Fit<K, V>> Maker<'a, 
     {
         let Self { door, making } = self;
         let mut guard = door.lock();
-        let (failed, others) = guard.fail(making, key);
-        others.wake(&door.woken);
+        let (failed, waiters) = guard.fail(making, key);
+        waiters.wake(&door.woken);
         // If it is refused as `Stale`, there is no making to give up.
         drop(failed.open(guard));
     }

@@ -38,7 +38,7 @@ impl<E> GetError<E> {
         }
     }
 
-    // Converts a refusal. What a begin or a making refuses is never stale.
+    // Converts a refusal. A begin or a making is never refused as stale.
     pub(crate) fn of_refusal(refusal: Refusal) -> GetError<E>
         requires { refusal ≢ Refusal.Stale }
         ensures memory { refusal ≡ Refusal.Memory → result ≡ GetError.Memory }

@@ -1,8 +1,9 @@
 //! A cache of heavy values that threads share. Handles pin values; entries without a pin are
 //! evicted, least recently released first, while the charges exceed the capacity.
 //!
-//! What a hit runs, from the call to its node, is marked `inline(always)`: in a call of some fifty
-//! nanoseconds each call of a function shows. What is rare (a making, a wait, a growth) is called.
+//! Every function on the path of a hit, from the call to its node, is marked `inline(always)`: a
+//! hit takes some fifty nanoseconds, so each call of a function shows. What is rare (a making, a
+//! wait, a growth) is left as a call.
 #![tactic(auto)]
 
 pub mod counts;

@@ -1,9 +1,10 @@
-//! Linear probing: the slots of a table are probed in a cycle, from the home of a hash on.
+//! Linear probing: a search visits the buckets of a table in a cycle, beginning at the home of a
+//! hash.
 ghost use Rattle.std.specs.Prelude.{◌≡◌, ◌<◌};
 ghost use Rattle.concurrent_lru.specs.Probing.Cycle.{next_of as next_in, steps, home_of as home_in};
 
-/// Returns the slot at which a search for a hash begins, of a number of slots.
-// The number of slots is a power of two, so each low bit of the hash counts.
+/// Returns the home of a hash among `count` buckets: the bucket at which a search for it begins.
+// The number of buckets is a power of two, so the mask keeps each low bit of the hash.
 #[inline(always)]
 pub fn home_of(count: usize, hash: u64) -> usize
     requires { 0 < count }
@@ -13,7 +14,7 @@ pub fn home_of(count: usize, hash: u64) -> usize
     hash as usize & (count - 1)
 }
 
-/// Returns the slot after this one. The first slot comes after the last.
+/// Returns the bucket after `at`. The first bucket comes after the last.
 #[inline(always)]
 pub fn next_of(count: usize, at: usize) -> usize
     requires { at < count }
@@ -24,7 +25,7 @@ pub fn next_of(count: usize, at: usize) -> usize
     if next < count { next } else { 0 }
 }
 
-/// Returns how many steps it is from one slot on to another.
+/// Returns the number of steps forward from one bucket to another.
 #[inline(always)]
 pub fn steps_between(count: usize, from: usize, to: usize) -> usize
     requires from { from < count }

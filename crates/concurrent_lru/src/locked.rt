@@ -48,8 +48,8 @@ use std::sync::Arc;
 ///
 /// It has no map by stamp. A debt holds the spot of its entry, the stamp with the hash of the key
 /// and the place, and a pinned entry stays at its place, so the call that settles a debt finds the
-/// entry at once.
-/// Only a stamp from elsewhere, or one whose entry has left, costs a look at every entry.
+/// entry at once. A lookup visits every entry only for a stamp from elsewhere, or one whose entry
+/// has left.
 #[derive(Drop)]
 pub struct Locked<K: Hash + Eq + Clone, V, F: Fit<K, V>> {
     state: State<K, V>,
@@ -217,7 +217,7 @@ impl<K: Hash + Eq + Clone + Drop, V: Drop, F: Fit<K, V>> Locked<K, V, F> {
         }
     }
 
-    // The core's `begin`, counted, with its own result, and a hint of the entry.
+    // The core's `begin`, counted. Returns the core's result, and a hint of the entry.
     #[inline(always)]
     fn begin_core(
         &mut self,
@@ -340,7 +340,7 @@ impl<K: Hash + Eq + Clone + Drop, V: Drop, F: Fit<K, V>> Locked<K, V, F> {
         }
     }
 
-    // The core's `poll`, if the spot's entry has the key, with its own result.
+    // The core's `poll`, counted, if the spot's entry has the key. Returns the core's result.
     fn poll_core(&mut self, spot: &Spot, key: &K) -> Result<Begun<V>, Refusal>
         ensures step { HasEqualKeyAt K.eq self.old.cache spot.now.stamp key.now
             → Stands K.eq self.old.cache (ask.poll spot.now.stamp) (outcome_of_poll result)
@@ -364,7 +364,7 @@ impl<K: Hash + Eq + Clone + Drop, V: Drop, F: Fit<K, V>> Locked<K, V, F> {
     /// The core's `ready`, if the making's entry has the key: the entry gets `stored`, and the pin
     /// holds `read`, another `Arc` of the same value. Takes no memory.
     ///
-    /// There is nobody to wake only if the entry has no other pin. If no entry with this stamp and
+    /// Callers are to be woken unless the entry has no other pin. If no entry with this stamp and
     /// key is being made, `stored` is returned.
     #[inline(always)]
     pub fn ready(
@@ -405,7 +405,7 @@ impl<K: Hash + Eq + Clone + Drop, V: Drop, F: Fit<K, V>> Locked<K, V, F> {
 
     /// The core's `fail`, if the making's entry has the key. Takes no memory.
     ///
-    /// There is nobody to wake only if the entry has no other pin. Returns `Stale` if no entry with
+    /// Callers are to be woken unless the entry has no other pin. Returns `Stale` if no entry with
     /// this stamp and key is being made.
     pub fn fail(
         &mut self,
@@ -429,14 +429,14 @@ impl<K: Hash + Eq + Clone + Drop, V: Drop, F: Fit<K, V>> Locked<K, V, F> {
             charge: _,
         } = making;
         let (is_own, shared) = self.state.has_key(&spot, key);
-        let heirs = Waiters::of(shared);
+        let waiters = Waiters::of(shared);
         if !is_own {
-            return (Sealed::of(Err(Refusal::Stale)), heirs);
+            return (Sealed::of(Err(Refusal::Stale)), waiters);
         }
-        (Sealed::of(self.fail_core(&spot)), heirs)
+        (Sealed::of(self.fail_core(&spot)), waiters)
     }
 
-    // The core's `fail`, counted, with its own result.
+    // The core's `fail`, counted. Returns the core's result.
     fn fail_core(&mut self, spot: &Spot) -> Result<Failed<K>, Refusal>
         ensures step { Stands K.eq self.old.cache (ask.fail spot.now.stamp) (outcome_of_fail result)
             self.new.cache }
@@ -487,8 +487,8 @@ impl<K: Hash + Eq + Clone + Drop, V: Drop, F: Fit<K, V>> Locked<K, V, F> {
     /// `Arc` of the pin's value, and the `Arc` that the core returned is sealed.
     ///
     /// Returns `Overflow` and `Memory` as there, with `read` sealed: then no entry changes. If the
-    /// core refuses it as `Stale`, no entry has a pin for `pin`, nor has one for the new pin, whose
-    /// release then changes nothing.
+    /// core refuses as `Stale`, no entry has a pin for `pin` or for the new pin, whose release then
+    /// changes nothing.
     pub fn repin(
         &mut self,
         pin: &HeldPin<K, V, F>,
@@ -528,7 +528,7 @@ impl<K: Hash + Eq + Clone + Drop, V: Drop, F: Fit<K, V>> Locked<K, V, F> {
         Sealed::of(self.release_core(&spot))
     }
 
-    // The core's `release`, counted, with its own result.
+    // The core's `release`, counted. Returns the core's result.
     #[inline(always)]
     fn release_core(&mut self, spot: &Spot) -> Result<Evicted<K, V>, Refusal>
         ensures step { Stands K.eq self.old.cache (ask.release spot.now.stamp)

@@ -1,6 +1,6 @@
 //! Nodes by place and by hash, and the order of the idle ones: an intrusive list of raw nodes, with
 //! a slab of pointers to them and a table from the hashes of their keys. No key is hashed and no
-//! charge added here. What a node stores as its value is a parameter.
+//! charge is added up here. What a node stores as its value is a parameter.
 // What a hit calls is inlined, so that results stay in registers; rare paths are left as calls.
 ghost use Rattle.std.specs.Prelude.{◌≡◌, ◌≢◌, ℕ, ◌+◌, ◌<◌, ◌≤◌, ◌^◌, ◌==◌, Some, None, [], ◌∷◌, ◌++◌, filter, not, IsSome, OnOk, OnErr, IfOk, IfErr, IfSome, IsTrue, IsFalse, MatchOption, slice_get, nat_eq};
 ghost use Rattle.std.specs.List.{IsDistinct};
@@ -48,8 +48,8 @@ pub struct Node<K, V> {
     pub phase: Phase<V>,
     // The node after it in the idle order.
     after: *mut Node<K, V>,
-    // Whether there is a node before it in the idle order, and one after it. The two links without
-    // these marks lead nowhere. An `Option` of a pointer would take 16 bytes.
+    // Whether there is a node before it in the idle order, and one after it. A link leads nowhere
+    // unless its mark is set. An `Option` of a pointer would take 16 bytes.
     has_before: bool,
     has_after: bool,
     /// Whether the entry is found by its stamp only, and no longer by its key.
@@ -60,7 +60,7 @@ pub struct Node<K, V> {
     before: *mut Node<K, V>,
     /// The number that identifies the entry; no two entries of a cache ever share one.
     pub stamp: u64,
-    // Its own slot.
+    // The slot of the node.
     slot: usize,
     /// The hash of the key, under which the entry is found while it is not detached.
     pub hash: u64,
@@ -160,9 +160,9 @@ pub(crate) struct Found<'a, K, V> {
 
 /// Nodes by place, and the places of the idle ones, oldest first.
 ///
-/// Clauses see a map from places to entries, the list of idle places, `spare`, the number of
-/// inserts that need no memory, `work`, how often the order was written, and `looks`, how often a
-/// node was looked up in the slab to be written or taken. An append or a removal looks up at most
+/// Clauses see a map from places to entries, the list of idle places, the number of inserts that
+/// need no memory (`spare`), how often the order was written (`work`), and how often a node was
+/// looked up in the slab to be written or taken (`looks`). An append or a removal looks up at most
 /// one node.
 pub struct Nodes<K, V> {
     order: Order<K, V>,
@@ -241,7 +241,7 @@ impl<K: Drop, V: Drop> Nodes<K, V> {
         Ok(())
     }
 
-    /// Inserts a node, for which there is room, outside the idle order, at a place that was free.
+    /// Inserts a node at a free place, outside the idle order. There must be room for it.
     pub fn insert_reserved(&mut self, node: Box<Node<K, V>>) -> Place
         requires spare { 0 < self.old.spare }
         requires alone { chain_of node.value ≡ [] }
@@ -265,7 +265,7 @@ impl<K: Drop, V: Drop> Nodes<K, V> {
         self.order.slots.len()
     }
 
-    // Returns whether there is a node at the place, which may be any place.
+    // Returns whether there is a node at a place. Any place will do.
     pub(crate) fn contains(&self, place: Place) -> bool
         ensures yes { IsTrue result → ContainsNode self.now place }
         ensures no { IsFalse result → map.get self.now.nodes place ≡ None }
@@ -280,7 +280,7 @@ impl<K: Drop, V: Drop> Nodes<K, V> {
         self.order.slots.end_of_slots()
     }
 
-    // Returns whether a node with this stamp is at the place, which may be any place.
+    // Returns whether a node with this stamp is at a place. Any place will do.
     pub(crate) fn has_stamp(&self, place: Place, stamp: u64) -> bool
         ensures yes { IsTrue result → HasStampAt self.now place stamp }
         ensures no { IsFalse result → HasStampAt self.now place stamp → ⊥ }
@@ -382,9 +382,9 @@ impl<K: Drop, V: Drop> Nodes<K, V> {
         self.set_pins_near(place, Cursor::nowhere(), pins);
     }
 
-    // The calls named `.._near` do what the others do. Their lookup, as that of all calls with a
-    // cursor, begins at the cursor, which may be any: one that leads to the node saves them a read
-    // of the slab.
+    // A call named `.._near` does what the call without that suffix does. Its lookup begins at the
+    // cursor, as in every call that takes one. Any cursor will do; one that leads to the node saves
+    // a read of the slab.
 
     pub(crate) fn set_pins_near(&mut self, place: Place, near: Cursor, pins: u32)
         requires { ContainsNode self.old place }
@@ -394,8 +394,8 @@ impl<K: Drop, V: Drop> Nodes<K, V> {
         ensures spare { self.old.spare ≤ self.new.spare }
         ensures work { self.new.work ≡ self.old.work }
     {
-        let own = self.order.slots.look_near(place.slot, near);
-        self.order.slots.follow_mut(own).set_pins(pins);
+        let pointer = self.order.slots.look_near(place.slot, near);
+        self.order.slots.follow_mut(pointer).set_pins(pins);
     }
 
     /// Marks a node as detached from its key. Takes no memory.
@@ -408,8 +408,8 @@ impl<K: Drop, V: Drop> Nodes<K, V> {
         ensures work { self.new.work ≡ self.old.work }
     {
         self.order.slots.unlist(place.slot);
-        let own = self.order.slots.look(place.slot);
-        self.order.slots.follow_mut(own).set_detached();
+        let pointer = self.order.slots.look(place.slot);
+        self.order.slots.follow_mut(pointer).set_detached();
     }
 
     /// Sets the phase of a node. Takes no memory.
@@ -432,8 +432,8 @@ impl<K: Drop, V: Drop> Nodes<K, V> {
         ensures spare { self.old.spare ≤ self.new.spare }
         ensures work { self.new.work ≡ self.old.work }
     {
-        let own = self.order.slots.look_near(place.slot, near);
-        self.order.slots.follow_mut(own).set_phase(phase);
+        let pointer = self.order.slots.look_near(place.slot, near);
+        self.order.slots.follow_mut(pointer).set_phase(phase);
     }
 
     /// Makes a node the newest idle one. Takes no memory.
@@ -447,8 +447,8 @@ impl<K: Drop, V: Drop> Nodes<K, V> {
         ensures work { self.new.work ≡ self.old.work + 1 }
         ensures looks { self.new.looks ≤ self.old.looks + 1 }
     {
-        let own = self.order.slots.look(place.slot);
-        self.order.push(own, place.slot);
+        let pointer = self.order.slots.look(place.slot);
+        self.order.push(pointer, place.slot);
         self.work.tick();
     }
 
@@ -466,10 +466,10 @@ impl<K: Drop, V: Drop> Nodes<K, V> {
         ensures work { self.new.work ≡ self.old.work + 1 }
         ensures looks { self.new.looks ≤ self.old.looks + 1 }
     {
-        let own = self.order.slots.look_near(place.slot, near);
-        let charge = self.order.slots.follow(own).charge;
-        self.order.slots.follow_mut(own).set_pins(0);
-        self.order.push(own, place.slot);
+        let pointer = self.order.slots.look_near(place.slot, near);
+        let charge = self.order.slots.follow(pointer).charge;
+        self.order.slots.follow_mut(pointer).set_pins(0);
+        self.order.push(pointer, place.slot);
         self.work.tick();
         charge
     }
@@ -484,8 +484,8 @@ impl<K: Drop, V: Drop> Nodes<K, V> {
         ensures work { self.new.work ≡ self.old.work + 1 }
         ensures looks { self.new.looks ≤ self.old.looks + 1 }
     {
-        let own = self.order.slots.look(place.slot);
-        self.order.cut(own);
+        let pointer = self.order.slots.look(place.slot);
+        self.order.cut(pointer);
         self.work.tick();
     }
 
@@ -499,9 +499,9 @@ impl<K: Drop, V: Drop> Nodes<K, V> {
         ensures work { self.new.work ≡ self.old.work + 2 }
         ensures looks { self.new.looks ≤ self.old.looks + 1 }
     {
-        let node = self.order.slots.look_near(place.slot, near);
-        self.order.cut(node);
-        self.order.push(node, place.slot);
+        let pointer = self.order.slots.look_near(place.slot, near);
+        self.order.cut(pointer);
+        self.order.push(pointer, place.slot);
         self.work.tick();
         self.work.tick();
     }
@@ -537,9 +537,9 @@ impl<K: Drop, V: Drop> Nodes<K, V> {
 }
 
 impl<K: Drop, V: Stores + Drop> Nodes<K, V> {
-    // Pins a ready node, which has `pins` pins, once more. An idle one leaves the idle order.
-    // Returns its value and its charge. Takes no memory except for the copy of the value. Returns
-    // `Memory` if that is refused, and then nothing changed.
+    // Adds a pin to a ready node, which has `pins` pins. An idle one leaves the idle order. Returns
+    // its value and its charge. Takes no memory except for the copy of the value. Returns `Memory`
+    // if that is refused; then nothing changes.
     //
     // The node is looked up before the copy, since a processor starts no later read until an atomic
     // instruction has completed.
@@ -563,15 +563,15 @@ impl<K: Drop, V: Stores + Drop> Nodes<K, V> {
         ensures spare { self.old.spare ≤ self.new.spare }
         ensures looks { self.new.looks ≤ self.old.looks + 1 }
     {
-        let own = self.order.slots.look_near(place.slot, near);
-        let node = self.order.slots.follow(own);
+        let pointer = self.order.slots.look_near(place.slot, near);
+        let node = self.order.slots.follow(pointer);
         let charge = node.charge;
         let value = node.share_value()?;
-        self.order.slots.follow_mut(own).set_pins(pins + 1);
+        self.order.slots.follow_mut(pointer).set_pins(pins + 1);
         if pins > 0 {
             return Ok((value, charge));
         }
-        self.order.cut(own);
+        self.order.cut(pointer);
         self.work.tick();
         Ok((value, charge))
     }

@@ -1,4 +1,4 @@
-//! Handles that borrow nothing: each keeps its cache alive with an `Arc` of its own.
+//! Handles that borrow nothing: each has an `Arc` of the cache, which keeps it alive.
 ghost use Rattle.std.specs.Prelude.{◌≡◌, ◌≢◌, ◌<◌, Some, None, Ok, Err, IfOk, IfErr, IfSome};
 ghost use Rattle.std.specs.Fn.{FnOnceReturnsAt, FnOnceTakesAt};
 ghost use Rattle.concurrent_lru.specs.ThreadedCalls.{IfInit};

@@ -1,4 +1,4 @@
-//! A cache in shards, each behind a lock of its own, for any number of threads.
+//! A cache in shards, each behind its own lock, for any number of threads.
 //!
 //! A hasher chooses the shard that serves a key. No shard waits for another's lock.
 ghost use Rattle.std.specs.Prelude.{◌≡◌, ◌≢◌, ◌<◌, Some, None, Ok, Err, IfOk, IfErr, IfSome};

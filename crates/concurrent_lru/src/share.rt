@@ -32,7 +32,7 @@ pub trait Sharing<V>: Sized {
         V: Drop;
 }
 
-/// A share is an `Arc`, an owner of the value. The owners are counted in two atomic instructions a
+/// A share is an `Arc`, an owner of the value. Counting the owners takes two atomic instructions a
 /// pin. A share takes no memory, and is refused only if the count of owners is full.
 #[derive(Debug, Drop, PartialEq, Eq)]
 pub struct ByArc {}
@@ -90,9 +90,9 @@ impl<V: Copy> Sharing<V> for ByCopy {
     }
 }
 
-/// What a node can hand out once more. Clauses see only that both are equal.
+/// A stored value of which a node can hand out another. Clauses see only that both are equal.
 pub trait Stores: Sized {
-    /// Returns another one. Returns `AllocError` if it is refused.
+    /// Returns another. Returns `AllocError` if it is refused.
     fn another(&self) -> Result<Self, AllocError>
         ensures { IfOk result (λ other. other ≡ self.now) };
 }

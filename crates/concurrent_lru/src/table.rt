@@ -1,6 +1,6 @@
 //! The entries of a cache as one value: nodes, lookup of their places by key and by stamp, and the
-//! total of the charges. The only rule of the cache decided here is the order of eviction; when
-//! things happen is up to the core.
+//! total of the charges. The order of eviction is the only rule of the cache that is decided here;
+//! the core decides when entries come and leave.
 //!
 //! A key is hashed by `Table::hash_of`, once in a call of the core, which passes the hash on with
 //! the key.
@@ -39,7 +39,7 @@ use std::marker::Model;
 pub struct Table<K: Hash + Eq + Clone, V> {
     nodes: Nodes<K, V>,
     by_stamp: StampIndex,
-    // With which keys are hashed.
+    // The seed with which keys are hashed.
     seed: u64,
     total: u64,
     // The idle entries' part of the total.
@@ -64,8 +64,8 @@ impl<K: Hash + Eq + Clone, V> Model for Table<K, V> {
 }
 
 impl<K: Hash + Eq + Clone, V: Drop> Table<K, V> {
-    /// Creates a table with no entries and a map by stamp, which hashes keys with a seed. Takes no
-    /// memory.
+    /// Creates a table with no entries, which hashes keys with a seed and has a map by stamp. Takes
+    /// no memory.
     pub fn new(alloc: Global, seed: u64) -> Table<K, V>
         requires { CopiesAreEqual K.is_clone K.eq }
         ensures idle { result.idle ≡ [] }
@@ -139,8 +139,8 @@ impl<K: Hash + Eq + Clone, V: Drop> Table<K, V> {
         self.total - self.idle_charge
     }
 
-    /// Returns the node of the entry with this stamp. The lookup begins with the spot's hint, which
-    /// may be any.
+    /// Returns the node of the entry with this stamp. The lookup begins with the spot's hint; any
+    /// hint will do.
     #[inline(always)]
     pub fn find_stamp(&self, spot: &Spot) -> Option<Found<'_, K, V>>
         ensures found { MatchOption result (ContainsNoStamp self.now spot.now.stamp)
@@ -154,7 +154,7 @@ impl<K: Hash + Eq + Clone, V: Drop> Table<K, V> {
     }
 
     // Returns the node of the entry with this stamp, which may be detached. The lookup begins at
-    // `near`, which may be any place.
+    // `near`; any place will do.
     #[inline(never)]
     fn find_stamp_near(&self, near: Place, stamp: u64) -> Option<Found<'_, K, V>>
         ensures found { MatchOption result (ContainsNoStamp self.now stamp)
@@ -286,8 +286,8 @@ impl<K: Hash + Eq + Clone, V: Drop> Table<K, V> {
 
     /// Sets the number of pins of a held entry, which stays held. Takes no memory.
     ///
-    /// The lookup begins at a cursor, here and in the calls below; any will do, and one that leads
-    /// to the node saves a read of the slab.
+    /// In this call and those below, the lookup begins at a cursor. Any cursor will do; one that
+    /// leads to the node saves a read of the slab.
     pub fn set_pins(&mut self, place: Place, near: Cursor, pins: u32)
         requires held { ContainsHeldAt self.old place }
         requires some { 0 < pins }
@@ -334,7 +334,7 @@ impl<K: Hash + Eq + Clone, V: Drop> Table<K, V> {
 }
 
 impl<K: Hash + Eq + Clone, V: Stores + Drop> Table<K, V> {
-    /// Pins a ready entry, which has `pins` pins, once more and returns its value. An idle one
+    /// Adds a pin to a ready entry, which has `pins` pins, and returns its value. An idle entry
     /// leaves the idle order.
     ///
     /// Returns `Memory` if the copy of the value is refused; then nothing changes.
@@ -360,7 +360,7 @@ impl<K: Hash + Eq + Clone, V: Stores + Drop> Table<K, V> {
     }
 }
 
-// The node of a new entry.
+// Creates the node of a new entry.
 #[inline(always)]
 fn new_entry<K: Hash + Eq + Clone, V: Drop>(
     alloc: Global,
@@ -376,12 +376,12 @@ fn new_entry<K: Hash + Eq + Clone, V: Drop>(
     ensures own { IfOk result (λ n. K.is_clone key.now (entry_of n.value).key) }
     ensures refusal { IfErr result (λ e. e ≡ Refusal.Memory) }
 {
-    let own = key.clone()?;
-    let node = Box::new(alloc, Node::new(stamp, hash, own, charge))?;
+    let key_copy = key.clone()?;
+    let node = Box::new(alloc, Node::new(stamp, hash, key_copy, charge))?;
     Ok(node)
 }
 
-// Reserves room for `more` more entries, so that their inserts cannot fail.
+// Reserves room for `more` entries besides those present, so that their inserts cannot fail.
 fn make_room<K: Drop, V: Drop>(
     nodes: &mut Nodes<K, V>,
     by_stamp: &mut StampIndex,
@@ -401,7 +401,7 @@ fn make_room<K: Drop, V: Drop>(
     Ok(())
 }
 
-// Inserts a new node, for which there is room. Returns its place.
+// Inserts a new node and returns its place. There must be room for it.
 #[inline(always)]
 fn put<K: Drop, V: Drop>(
     nodes: &mut Nodes<K, V>,
@@ -432,7 +432,7 @@ fn put<K: Drop, V: Drop>(
     place
 }
 
-// Removes a node that is in no order, with its stamp and its charge.
+// Removes a node that is not in the idle order, with its stamp and its charge.
 fn take_away<K: Drop, V: Drop>(
     nodes: &mut Nodes<K, V>,
     by_stamp: &mut StampIndex,

@@ -389,7 +389,8 @@ impl<K: Hash + Eq + Clone + Drop, V: Drop, R: Wait, F: Fit<K, V>> LruCache<K, V,
     }
 
     /// Returns the sum of the charges of the held entries, including those still being made and
-    /// those held after an `invalidate`. The rest of `total_charge` is idle. Takes no memory.
+    /// those held after an `invalidate`. The rest of `total_charge` is that of idle entries. Takes
+    /// no memory.
     pub fn pinned_charge(&self) -> u64 {
         let guard = self.door.lock();
         guard.state().pinned_charge()
@@ -472,7 +473,7 @@ impl<K: Hash + Eq + Clone + Drop, V: Drop, R: Wait, F: Fit<K, V>> LruCache<K, V,
         self.door.release(pin);
     }
 
-    // Pins once more the entry of a handle that keeps the cache alive.
+    // Adds a pin to the entry of a handle that keeps the cache alive.
     pub(crate) fn repin(&self, pin: &HeldPin<K, V, F>) -> Result<HeldPin<K, V, F>, Refusal>
         ensures pin { IfOk result (λ another. another ≡ pin.now) }
         ensures never_stale { IfErr result (λ e. e ≢ Refusal.Stale) }
@@ -480,7 +481,7 @@ impl<K: Hash + Eq + Clone + Drop, V: Drop, R: Wait, F: Fit<K, V>> LruCache<K, V,
         self.door.repin(pin)
     }
 
-    // Stores a value that was made and wakes the callers that wait for it. Gives the making up if
+    // Stores a value that was made and wakes the callers that wait for it. Gives up the making if
     // memory is refused.
     #[inline(always)]
     fn finish<'a>(

@@ -1,5 +1,5 @@
-//! The lock of a twin. Each call acquires it once, for one call of the journal, and releases it.
-//! What this took out of the cache is dropped after that.
+//! The lock of a twin. Each call acquires it once, for one call of the journal. What this took out
+//! of the cache is dropped after the lock is released.
 ghost use Rattle.std.specs.Prelude.{◌≡◌, IfErr};
 ghost use Rattle.lru_journal.specs.Tallies.{all_parts, AreExactly, IsTallied};
 

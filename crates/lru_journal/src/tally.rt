@@ -48,7 +48,7 @@ pub struct View<K> {
     pub keeps: bool,
     /// The records that it knows.
     pub all: LinkedList<Record<K>>,
-    /// Its number of parts of the twin.
+    /// How many parts of the twin it has.
     pub parts: u64,
     /// Its receipts: positions with the records there.
     pub receipts: LinkedList<(u64, Record<K>)>,

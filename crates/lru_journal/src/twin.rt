@@ -319,12 +319,12 @@ impl<K: Hash + Eq + Clone + Send + Sync, V: Drop + Send + Sync, R: Wait + Drop, 
         ensures never_stale { IfErr result (λ e. e.0 ≢ Refusal.Stale) }
         ensures back { IfErr result (λ e. arc_value e.1 ≡ arc_value value) }
     {
-        let Ok(own) = value.clone() else {
+        let Ok(pinned) = value.clone() else {
             return Err((Refusal::Memory, value));
         };
         let call = calls::Insert { key, charge, value };
         let inserted = self.door.lock().call(tally, call)?;
-        Ok(Pin::new(inserted.stamp, own))
+        Ok(Pin::new(inserted.stamp, pinned))
     }
 
     /// Inserts a value as `insert` does, but not if its charge would take the total above the
@@ -348,12 +348,12 @@ impl<K: Hash + Eq + Clone + Send + Sync, V: Drop + Send + Sync, R: Wait + Drop, 
         ensures never_stale { IfErr result (λ e. e.0 ≢ Refusal.Stale) }
         ensures back { IfErr result (λ e. arc_value e.1 ≡ arc_value value) }
     {
-        let Ok(read) = value.clone() else {
+        let Ok(pinned) = value.clone() else {
             return Err((Refusal::Memory, value));
         };
         let call = calls::InsertStrictly { key, charge, value };
         let inserted = self.door.lock().call(tally, call)?;
-        Ok(Pin::new(inserted.stamp, read))
+        Ok(Pin::new(inserted.stamp, pinned))
     }
 
     /// Evicts every idle entry.

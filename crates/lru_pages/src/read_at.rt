@@ -18,8 +18,8 @@ pub trait ReadAt {
         ensures has { OnOk result (has self.now offset buf.new) };
 }
 
-/// An open file. No contract can state which bytes the system returns: any may be anywhere in it.
-/// What is proved of its blocks is which bytes are requested.
+/// An open file. No contract can state which bytes the system returns: any bytes may be at any
+/// offset. What is proved of its blocks is which bytes are requested.
 impl ReadAt for File {
     fn fill(&self, buf: &mut [u8], offset: u64) -> io::Result<()> {
         self.read_exact_at(buf, offset)

@@ -7,9 +7,9 @@ use std::marker::Model;
 
 /// A list of numbers whose sum fits a `u64`, with partial sums. Clauses see the list.
 ///
-/// The numbers are the second half of `nodes`. Each node of the first half, except node 0, is the
-/// sum of the two at twice its index and after it. That holds for any count, so nothing is rounded
-/// up to a power of two.
+/// The numbers are the second half of `nodes`. Each node i of the first half, except node 0, is the
+/// sum of the nodes 2i and 2i + 1. That works for any count, so nothing is rounded up to a power of
+/// two.
 #[derive(Drop)]
 pub struct SumTree {
     count: usize,
@@ -75,9 +75,9 @@ fn write(nodes: &mut [u64], count: usize, place: usize, number: u64)
     }
 }
 
-// Returns the sum of the numbers from `place` on. The nodes between `from` and `end` are those left
-// to sum: each turn sums the ones at either side whose sibling is not among them, and then their
-// parents stand for all others.
+// Returns the sum of the numbers from `place` on. The nodes from `from` to `end` are left to sum:
+// each turn adds the first and the last of them if their siblings are not among them, and goes on
+// with the parents of the others.
 fn sum_of_end(nodes: &[u64], count: usize, place: usize) -> u64
     requires within { place ≤ count }
     requires tree { IsSumTree count nodes.now }

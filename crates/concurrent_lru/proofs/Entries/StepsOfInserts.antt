@@ -27,56 +27,56 @@ module _ {K V : Type 0} (E : K → K → Bool) (laws : IsEquivalence E) (capacit
 
   module _ (some : e.pins ≢ 0) (found : e.detached ≡ false) where
     -- the entries after a held one is detached
-    abbrev lost : Entries K V
-    lost = record t { held = insert t.held e.stamp (held_detached (held_entry e)) }
+    abbrev with_detached : Entries K V
+    with_detached = record t { held = insert t.held e.stamp (held_detached (held_entry e)) }
 
-    sum_lost : charges_of lost ≡ charges_of t
-    sum_lost = sum_written t lost e.stamp (held_entry e) (held_detached (held_entry e)) refl refl (here.held some) refl
+    sum_with_detached : charges_of with_detached ≡ charges_of t
+    sum_with_detached = sum_written t with_detached e.stamp (held_entry e) (held_detached (held_entry e)) refl refl (here.held some) refl
 
-    loses : Detaches E old k [] (cache_with capacity most next lost)
-    loses = record { stamp = e.stamp; entry = held_entry e; at = here.held some; found = found; same_key = equal; changed = refl; none = refl }
+    detaches_held : Detaches E old k [] (cache_with capacity most next with_detached)
+    detaches_held = record { stamp = e.stamp; entry = held_entry e; at = here.held some; found = found; same_key = equal; changed = refl; none = refl }
 
-    lost_absent : IsAbsent E (cache_with capacity most next lost) k
-    lost_absent = detached_absent E laws old l k e.stamp (held_entry e) (here.held some) found equal
+    absent_with_detached : IsAbsent E (cache_with capacity most next with_detached) k
+    absent_with_detached = detached_absent E laws old l k e.stamp (held_entry e) (here.held some) found equal
 
     pub overflows_held : (2 ^ 64 ≤ charges_of t + charge) ⊎ (2 ^ 64 ≤ next + 1) → RefusesToReplace E old k charge Overflow old
     overflows_held end = record {
-      mid = cache_with capacity most next lost;
+      mid = cache_with capacity most next with_detached;
       replaced = [];
-      invalidated = inr (inl loses);
-      refuses = overflows E charge lost_absent (elim end [
-        | inl sum ↦ inl (let same = sum_lost in omega (arith, sum, same))
+      invalidated = inr (inl detaches_held);
+      refuses = overflows E charge absent_with_detached (elim end [
+        | inl sum ↦ inl (let same = sum_with_detached in omega (arith, sum, same))
         | inr stamps ↦ inr stamps
       ]);
       same = refl;
     }
 
-    pub lacks_held : charges_of t + charge < 2 ^ 64 → next + 1 < 2 ^ 64 → RefusesToReplace E old k charge Memory old
-    lacks_held sum stamps = record {
-      mid = cache_with capacity most next lost;
+    pub lacks_memory_held : charges_of t + charge < 2 ^ 64 → next + 1 < 2 ^ 64 → RefusesToReplace E old k charge Memory old
+    lacks_memory_held sum stamps = record {
+      mid = cache_with capacity most next with_detached;
       replaced = [];
-      invalidated = inr (inl loses);
-      refuses = lacks_memory E charge lost_absent (let same = sum_lost in omega (arith, sum, same), stamps);
+      invalidated = inr (inl detaches_held);
+      refuses = lacks_memory E charge absent_with_detached (let same = sum_with_detached in omega (arith, sum, same), stamps);
       same = refl;
     }
 
     module _ (added new : Entries K V) (out : List (Idle K V)) (w : AddsOverHeld E t p next k charge added) (fits : charges_of t + charge < 2 ^ 64) (low : next + 1 < 2 ^ 64) (held : new.held ≡ added.held) (front : IsFront (charges_of added) capacity added.idle out new.idle) where
-      gone : Detaches E old k [] (cache_with capacity most next w.mid)
-      gone = detaches E capacity most next here w.mid k found equal some w.detached
+      detaches_mid : Detaches E old k [] (cache_with capacity most next w.mid)
+      detaches_mid = detaches E capacity most next here w.mid k found equal some w.detached
 
       makes_held : Makes E (cache_with capacity most next w.mid) k charge next out (cache_with capacity most (next + 1) new)
       makes_held =
-          let d = gone in
+          let d = detaches_mid in
           let absent : IsAbsent E (cache_with capacity most next w.mid) k = subst (λ c. IsAbsent E c k) (sym d.changed) (detached_absent E laws old l k d.stamp d.entry d.at d.found d.same_key) in
           let r = w.detached in
           let same : charges_of w.mid ≡ charges_of t = sum_written t w.mid r.stamp r.entry (held_detached r.entry) (ap (λ u. u.idle) r.changed) (ap (λ u. u.held) r.changed) r.held refl in
           makes E capacity most next w.mid added new k w.added.copy charge out absent w.added.same_key (omega (arith, fits, same)) low w.added.idle w.added.held held front
 
       pub remakes_held : (h : Hint) → Remakes E old k charge (Ok (record { stamp = next; hint = h }, [], out)) (cache_with capacity most (next + 1) new)
-      remakes_held h = (cache_with capacity most next w.mid, inr (inl gone), inl makes_held)
+      remakes_held h = (cache_with capacity most next w.mid, inr (inl detaches_mid), inl makes_held)
 
       pub held_lawful : 0 < charge → 0 < most → IsLawful E (cache_with capacity most (next + 1) new)
-      held_lawful some pins = makes_lawful E _ _ k charge next out laws (detaches_lawful E old _ k [] l gone) some pins makes_held
+      held_lawful some pins = makes_lawful E _ _ k charge next out laws (detaches_lawful E old _ k [] l detaches_mid) some pins makes_held
 
   module _ (none : e.pins ≡ 0) where
     abbrev value : V
@@ -89,56 +89,56 @@ module _ {K V : Type 0} (E : K → K → Bool) (laws : IsEquivalence E) (capacit
     shown_at = idle_here here value (seen_ready e (here.idle none).0).1 none
 
     -- the entries without the idle one
-    abbrev rest : Entries K V
-    rest = record t { idle = without e.stamp t.idle }
+    abbrev without_idle : Entries K V
+    without_idle = record t { idle = without e.stamp t.idle }
 
-    sum_rest : charges_of rest + e.charge ≡ charges_of t
-    sum_rest = sum_evicted t rest e.stamp shown l.idle_apart refl refl shown_at
+    sum_without_idle : charges_of without_idle + e.charge ≡ charges_of t
+    sum_without_idle = sum_evicted t without_idle e.stamp shown l.idle_apart refl refl shown_at
 
-    leaves : Drops E old k (shown ∷ []) (cache_with capacity most next rest)
-    leaves = record { stamp = e.stamp; entry = shown; at = shown_at; same_key = equal; changed = refl; one = refl }
+    drops_idle : Drops E old k (shown ∷ []) (cache_with capacity most next without_idle)
+    drops_idle = record { stamp = e.stamp; entry = shown; at = shown_at; same_key = equal; changed = refl; one = refl }
 
-    rest_absent : IsAbsent E (cache_with capacity most next rest) k
-    rest_absent = dropped_absent E laws old l k (cache_with capacity most next rest) (shown ∷ []) leaves
+    absent_without_idle : IsAbsent E (cache_with capacity most next without_idle) k
+    absent_without_idle = dropped_absent E laws old l k (cache_with capacity most next without_idle) (shown ∷ []) drops_idle
 
     pub counted : e.charge ≤ charges_of t
     counted = idle_bound t e.stamp shown l.idle_apart shown_at
 
     pub overflows_idle : (2 ^ 64 + e.charge ≤ charges_of t + charge) ⊎ (2 ^ 64 ≤ next + 1) → RefusesToReplace E old k charge Overflow old
     overflows_idle end = record {
-      mid = cache_with capacity most next rest;
+      mid = cache_with capacity most next without_idle;
       replaced = shown ∷ [];
-      invalidated = inl leaves;
-      refuses = overflows E charge rest_absent (elim end [
-        | inl sum ↦ inl (let less = sum_rest in omega (arith, sum, less))
+      invalidated = inl drops_idle;
+      refuses = overflows E charge absent_without_idle (elim end [
+        | inl sum ↦ inl (let less = sum_without_idle in omega (arith, sum, less))
         | inr stamps ↦ inr stamps
       ]);
       same = refl;
     }
 
-    pub lacks_idle : charges_of t + charge < 2 ^ 64 + e.charge → next + 1 < 2 ^ 64 → RefusesToReplace E old k charge Memory old
-    lacks_idle sum stamps = record {
-      mid = cache_with capacity most next rest;
+    pub lacks_memory_idle : charges_of t + charge < 2 ^ 64 + e.charge → next + 1 < 2 ^ 64 → RefusesToReplace E old k charge Memory old
+    lacks_memory_idle sum stamps = record {
+      mid = cache_with capacity most next without_idle;
       replaced = shown ∷ [];
-      invalidated = inl leaves;
-      refuses = lacks_memory E charge rest_absent (let less = sum_rest in omega (arith, sum, less), stamps);
+      invalidated = inl drops_idle;
+      refuses = lacks_memory E charge absent_without_idle (let less = sum_without_idle in omega (arith, sum, less), stamps);
       same = refl;
     }
 
     module _ (added new : Entries K V) (d : Entry K V) (replaced out : List (Idle K V)) (ready : IsSome (as_idle d)) (w : AddsOverIdle E t p d next k charge added) (one : replaced ≡ filter_map as_idle (d ∷ []))
         (fits : charges_of t + charge < 2 ^ 64 + e.charge) (low : next + 1 < 2 ^ 64) (held : new.held ≡ added.held) (front : IsFront (charges_of added) capacity added.idle out new.idle) where
-      left : Drops E old k replaced (cache_with capacity most next w.mid)
-      left = drops E capacity most next here w.mid k d replaced equal none w.at ready w.entry w.idle w.held one
+      drops_mid : Drops E old k replaced (cache_with capacity most next w.mid)
+      drops_mid = drops E capacity most next here w.mid k d replaced equal none w.at ready w.entry w.idle w.held one
 
       makes_idle : Makes E (cache_with capacity most next w.mid) k charge next out (cache_with capacity most (next + 1) new)
       makes_idle =
-          let absent = dropped_absent E laws old l k (cache_with capacity most next w.mid) replaced left in
+          let absent = dropped_absent E laws old l k (cache_with capacity most next w.mid) replaced drops_mid in
           let stamp : d.stamp ≡ e.stamp = same_Some _ _ (sym w.at ∙ here.at) in
           let less : charges_of w.mid + e.charge ≡ charges_of t = sum_evicted t w.mid e.stamp shown l.idle_apart (w.idle ∙ ap (λ s. without s t.idle) stamp) w.held shown_at in
           makes E capacity most next w.mid added new k w.added.copy charge out absent w.added.same_key (omega (arith, fits, less)) low w.added.idle w.added.held held front
 
       pub remakes_idle : (h : Hint) → Remakes E old k charge (Ok (record { stamp = next; hint = h }, replaced, out)) (cache_with capacity most (next + 1) new)
-      remakes_idle h = (cache_with capacity most next w.mid, inl left, inl makes_idle)
+      remakes_idle h = (cache_with capacity most next w.mid, inl drops_mid, inl makes_idle)
 
       pub idle_lawful : 0 < charge → 0 < most → IsLawful E (cache_with capacity most (next + 1) new)
-      idle_lawful some pins = makes_lawful E _ _ k charge next out laws (drops_lawful E old _ k replaced l left) some pins makes_idle
+      idle_lawful some pins = makes_lawful E _ _ k charge next out laws (drops_lawful E old _ k replaced l drops_mid) some pins makes_idle

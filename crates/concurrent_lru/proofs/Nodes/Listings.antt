@@ -13,18 +13,18 @@ use Rattle.concurrent_lru.specs.SlotPointers.{IsTied, cells_of, place_in, HasNod
 use Rattle.concurrent_lru.specs.SlotTable.{entry_in}
 use Rattle.concurrent_lru.specs.declared.node_table.Node.{Node}
 use Rattle.concurrent_lru.specs.declared.node_table.memory.At.{At}
-use Rattle.concurrent_lru.specs.declared.node_table.probes.Slot.{Slot}
+use Rattle.concurrent_lru.specs.declared.node_table.probes.Bucket.{Bucket}
 use Rattle.concurrent_lru.specs.declared.node_table.slots.Slots.{Slots}
 use Rattle.concurrent_lru.proofs.Probing.Contents.Slots.{holds_within, holds_one}
 
 module _ {K V : Type 0} where
   -- ---- entries of the table, and cells
-  on_unless : (b : Bool) (c : NodeCell K V) (e : Slot (At (Node K V))) → unless b (listing c) ≡ Some e → (b ≡ false) × (e ≡ listing c)
+  on_unless : (b : Bool) (c : NodeCell K V) (e : Bucket (At (Node K V))) → unless b (listing c) ≡ Some e → (b ≡ false) × (e ≡ listing c)
   on_unless true c e h = cc
   on_unless false c e h = let same : listing c ≡ e = cc in (refl, sym same)
 
   -- what is listed is a node that is not detached
-  pub listed_cell : (x : Option (NodeCell K V)) (e : Slot (At (Node K V))) → listing_in x ≡ Some e → (c : NodeCell K V) × (x ≡ Some c) × ((entry_of c.value).detached ≡ false) × (e ≡ listing c)
+  pub listed_cell : (x : Option (NodeCell K V)) (e : Bucket (At (Node K V))) → listing_in x ≡ Some e → (c : NodeCell K V) × (x ≡ Some c) × ((entry_of c.value).detached ≡ false) × (e ≡ listing c)
   listed_cell None e h = cc
   listed_cell (Some c) e h = let on = on_unless (entry_of c.value).detached c e h in (c, refl, on.0, on.1)
 
@@ -42,10 +42,10 @@ module _ {K V : Type 0} where
   pub hash_cell : (x : Option (NodeCell K V)) (c : NodeCell K V) (hash : ℕ) → x ≡ Some c → hash_in x ≡ Some hash → hash_of c.value ≡ hash
   hash_cell x c hash is h = let same : Some (hash_of c.value) ≡ Some hash = sym (ap hash_in is) ∙ h in cc
 
-  pub listed_ptr : (x : Option (NodeCell K V)) (e : Slot (At (Node K V))) → listing_in x ≡ Some e → ptr_in x ≡ Some e.item.ptr
-  listed_ptr x e h = let there = listed_cell x e h in ap ptr_in there.1 ∙ ap (λ (s : Slot (At (Node K V))). Some s.item.ptr) (sym there.3)
+  pub listed_ptr : (x : Option (NodeCell K V)) (e : Bucket (At (Node K V))) → listing_in x ≡ Some e → ptr_in x ≡ Some e.item.ptr
+  listed_ptr x e h = let there = listed_cell x e h in ap ptr_in there.1 ∙ ap (λ (s : Bucket (At (Node K V))). Some s.item.ptr) (sym there.3)
 
-  none_listed : (e : Slot (At (Node K V))) (x : Option (NodeCell K V)) → x ≡ None → listing_in x ≡ Some e → ⊥
+  none_listed : (e : Bucket (At (Node K V))) (x : Option (NodeCell K V)) → x ≡ None → listing_in x ≡ Some e → ⊥
   none_listed e x none h = let a : listing_in x ≡ None = ap listing_in none in cc
 
   -- nodes that lie alike, with the same hashes and marks of detachment, are listed alike
@@ -61,7 +61,7 @@ module _ {K V : Type 0} where
   pub same_slot : (s : Slots K V) (j k : ℕ) (p : Ptr) → IsTied s → ptr_in (cell_at (cells_of s) j) ≡ Some p → ptr_in (cell_at (cells_of s) k) ≡ Some p → j ≡ k
   same_slot s j k p tied h i = let a = tied.apart j p h in let b = tied.apart k p i in let both : Some j ≡ Some k = sym a ∙ b in cc
 
-  pub one_item : (s : Slots K V) (j k : ℕ) (e f : Slot (At (Node K V))) → IsTied s → listing_at s j ≡ Some e → listing_at s k ≡ Some f → e.item ≡ f.item → j ≡ k
+  pub one_item : (s : Slots K V) (j k : ℕ) (e f : Bucket (At (Node K V))) → IsTied s → listing_at s j ≡ Some e → listing_at s k ≡ Some f → e.item ≡ f.item → j ≡ k
   one_item s j k e f tied h i same = same_slot s j k f.item.ptr tied (listed_ptr (cell_at (cells_of s) j) e h ∙ ap (λ (a : At (Node K V)). Some a.ptr) same) (listed_ptr (cell_at (cells_of s) k) f i)
 
   -- ---- the table and the nodes
@@ -71,11 +71,11 @@ module _ {K V : Type 0} where
     led = λ e h. absurd (empty h.0 e (subst (λ l. Holds l h.0 e) table h.1));
   }
     where
-      nothing : (slot : ℕ) (e : Slot (At (Node K V))) → listing_in (cell_at {X = NodeCell K V} [] slot) ≡ Some e → ⊥
+      nothing : (slot : ℕ) (e : Bucket (At (Node K V))) → listing_in (cell_at {X = NodeCell K V} [] slot) ≡ Some e → ⊥
       nothing zero e h = cc
       nothing (suc slot) e h = cc
 
-      empty : (k : ℕ) (e : Slot (At (Node K V))) → Holds [] k e → ⊥
+      empty : (k : ℕ) (e : Bucket (At (Node K V))) → Holds [] k e → ⊥
       empty k e h = let within = holds_within [] k e h in omega (arith, within)
 
   pub listed_kept : (s t : Slots K V) → t.by_hash ≡ s.by_hash → KeepsListings (cells_of s) (cells_of t) → IsListed s → IsListed t
@@ -125,12 +125,12 @@ module _ {K V : Type 0} where
   }
 
   -- the address of the node that is left out is not in the table
-  pub but_absent : (t : Slots K V) (slot : ℕ) (at : At (Node K V)) → IsTied t → IsListedBut t slot → ptr_in (cell_at (cells_of t) slot) ≡ Some at.ptr → (e : Slot (At (Node K V))) → Has t.by_hash e → e.item ≢ at
+  pub but_absent : (t : Slots K V) (slot : ℕ) (at : At (Node K V)) → IsTied t → IsListedBut t slot → ptr_in (cell_at (cells_of t) slot) ≡ Some at.ptr → (e : Bucket (At (Node K V))) → Has t.by_hash e → e.item ≢ at
   but_absent t slot at tied l here e h is =
       let there = l.led e h in
       there.1 (same_slot t there.0 slot at.ptr tied (listed_ptr (cell_at (cells_of t) there.0) e there.2 ∙ ap (λ (a : At (Node K V)). Some a.ptr) is) here)
 
-  pub listed_more : (t u : Slots K V) (slot : ℕ) (e : Slot (At (Node K V))) → cells_of u ≡ cells_of t → listing_at t slot ≡ Some e → Adds t.by_hash u.by_hash e → IsListedBut t slot → IsListed u
+  pub listed_more : (t u : Slots K V) (slot : ℕ) (e : Bucket (At (Node K V))) → cells_of u ≡ cells_of t → listing_at t slot ≡ Some e → Adds t.by_hash u.by_hash e → IsListedBut t slot → IsListed u
   listed_more t u slot e cells here adds l = record {
     listed = λ k f h.
         let was : listing_at t k ≡ Some f = subst (λ cs. listing_in (cell_at cs k) ≡ Some f) cells h in
@@ -144,7 +144,7 @@ module _ {K V : Type 0} where
     ];
   }
 
-  pub fewer_but : (s t : Slots K V) (slot : ℕ) (e : Slot (At (Node K V))) → cells_of t ≡ cells_of s → IsTied s → listing_at s slot ≡ Some e → Removes s.by_hash t.by_hash e.item → IsListed s → IsListedBut t slot
+  pub fewer_but : (s t : Slots K V) (slot : ℕ) (e : Bucket (At (Node K V))) → cells_of t ≡ cells_of s → IsTied s → listing_at s slot ≡ Some e → Removes s.by_hash t.by_hash e.item → IsListed s → IsListedBut t slot
   fewer_but s t slot e cells tied here removes l = record {
     listed = λ k f ne h.
         let was : listing_at s k ≡ Some f = subst (λ cs. listing_in (cell_at cs k) ≡ Some f) cells h in
@@ -153,7 +153,7 @@ module _ {K V : Type 0} where
         let there = l.led f (removes.from f h) in
         let ne : there.0 ≢ slot = λ is.
         let a : listing_at s slot ≡ Some f = ap (listing_at s) (sym is) ∙ there.1 in let same : f ≡ e = cc in
-        removes.gone f h (ap (λ (x : Slot (At (Node K V))). x.item) same) in
+        removes.gone f h (ap (λ (x : Bucket (At (Node K V))). x.item) same) in
         (there.0, ne, subst (λ cs. listing_in (cell_at cs there.0) ≡ Some f) (sym cells) there.1);
   }
 
@@ -187,10 +187,10 @@ module _ {K V : Type 0} where
       ap (λ (x : Entry K V). unless x.detached (listing c)) same ∙ ap (λ b. unless b (listing c)) found
 
   -- ---- where a slot of the table leads
-  pub leads : (s : Slots K V) (k : ℕ) (e : Slot (At (Node K V))) → IsTied s → IsListed s → Holds s.by_hash k e → IsSome (slot_at (cells_of s) e.item.ptr)
+  pub leads : (s : Slots K V) (k : ℕ) (e : Bucket (At (Node K V))) → IsTied s → IsListed s → Holds s.by_hash k e → IsSome (slot_at (cells_of s) e.item.ptr)
   leads s k e tied l h = let there = l.led e (k, h) in ap is_some (tied.apart there.0 e.item.ptr (listed_ptr (cell_at (cells_of s) there.0) e there.1))
 
-  pub candidate : (s : Slots K V) (k : ℕ) (e : Slot (At (Node K V))) (n : Node K V) → IsTied s → IsListed s → Holds s.by_hash k e
+  pub candidate : (s : Slots K V) (k : ℕ) (e : Bucket (At (Node K V))) (n : Node K V) → IsTied s → IsListed s → Holds s.by_hash k e
       → ((slot : ℕ) (c : NodeCell K V) → slot_at (cells_of s) e.item.ptr ≡ Some slot → cell_at (cells_of s) slot ≡ Some c → n ≡ c.value) → LeadsToCandidate s k n
   candidate s k e n tied l h value =
       let led = l.led e (k, h) in
@@ -205,10 +205,10 @@ module _ {K V : Type 0} where
       }
 
   -- a node whose address the slot of the table has is the one that it leads to
-  pub only_candidate : (s : Slots K V) (k slot : ℕ) (n : Node K V) (c : NodeCell K V) (e : Slot (At (Node K V))) → IsTied s → LeadsToCandidate s k n → cell_at (cells_of s) slot ≡ Some c → Holds s.by_hash k e → e.item ≡ (listing c).item → n ≡ c.value
+  pub only_candidate : (s : Slots K V) (k slot : ℕ) (n : Node K V) (c : NodeCell K V) (e : Bucket (At (Node K V))) → IsTied s → LeadsToCandidate s k n → cell_at (cells_of s) slot ≡ Some c → Holds s.by_hash k e → e.item ≡ (listing c).item → n ≡ c.value
   only_candidate s k slot n c e tied to there h same =
       let one : e ≡ listing to.cell = holds_one s.by_hash k e (listing to.cell) h to.holds in
-      let at : to.cell.at ≡ c.at = ap (λ (x : Slot (At (Node K V))). x.item.ptr) (sym one) ∙ ap (λ (a : At (Node K V)). a.ptr) same in
+      let at : to.cell.at ≡ c.at = ap (λ (x : Bucket (At (Node K V))). x.item.ptr) (sym one) ∙ ap (λ (a : At (Node K V)). a.ptr) same in
       let is : to.slot ≡ slot = same_slot s to.slot slot c.at tied (ap ptr_in to.there ∙ ap Some at) (ap ptr_in there) in
       let cells : Some to.cell ≡ Some c = sym to.there ∙ ap (cell_at (cells_of s)) is ∙ there in
       let cell : to.cell ≡ c = cc in
@@ -219,10 +219,10 @@ module _ {K V : Type 0} where
   candidate_slot s k n tied to = tied.placed to.slot (place_of n) (ap place_in to.there ∙ ap (λ x. Some (place_of x)) (sym to.is))
 
   -- and the item of that slot of the table leads to it
-  pub candidate_leads : (s : Slots K V) (k slot : ℕ) (n : Node K V) (e : Slot (At (Node K V))) → IsTied s → (to : LeadsToCandidate s k n) → Holds s.by_hash k e → place_of n ≡ slot → slot_at (cells_of s) e.item.ptr ≡ Some slot
+  pub candidate_leads : (s : Slots K V) (k slot : ℕ) (n : Node K V) (e : Bucket (At (Node K V))) → IsTied s → (to : LeadsToCandidate s k n) → Holds s.by_hash k e → place_of n ≡ slot → slot_at (cells_of s) e.item.ptr ≡ Some slot
   candidate_leads s k slot n e tied to h is =
       let one : e ≡ listing to.cell = holds_one s.by_hash k e (listing to.cell) h to.holds in
-      ap (λ (x : Slot (At (Node K V))). slot_at (cells_of s) x.item.ptr) one ∙ tied.apart to.slot to.cell.at (ap ptr_in to.there) ∙ ap Some (sym (candidate_slot s k n tied to) ∙ is)
+      ap (λ (x : Bucket (At (Node K V))). slot_at (cells_of s) x.item.ptr) one ∙ tied.apart to.slot to.cell.at (ap ptr_in to.there) ∙ ap Some (sym (candidate_slot s k n tied to) ∙ is)
 
   pub candidate_there : (s : Slots K V) (k : ℕ) (n : Node K V) → IsTied s → (to : LeadsToCandidate s k n) → cell_at (cells_of s) (place_of n) ≡ Some to.cell
   candidate_there s k n tied to = ap (cell_at (cells_of s)) (candidate_slot s k n tied to) ∙ to.there

@@ -1,4 +1,4 @@
--- Steps in a circle of n slots.
+-- Steps in a circle of n buckets.
 use Rattle.std.proofs.Common.{◌≡◌, ◌≢◌, ℕ, ◌+◌, ◌-◌, ◌<◌, ◌≤◌, cond, ap, arith, inl, inr, ◌⊎◌}
 use Rattle.std.proofs.lemmas.Bool.{cases_lt, lt-ltb, le-ltb}
 use Rattle.std.proofs.lemmas.Nat.{and_le_r}
@@ -13,7 +13,7 @@ next_inner n at h = ap (λ t. cond t (at + 1) 0) (lt-ltb (at + 1) n h)
 next_last : (n at : ℕ) → n ≤ at + 1 → next_of n at ≡ 0
 next_last n at h = ap (λ t. cond t (at + 1) 0) (le-ltb (at + 1) n h)
 
--- the next slot is within, and is the following one or, after the last, the first
+-- the next bucket is within, and is the following one or, after the last, the first
 pub next_cases : (n at : ℕ) → at < n → (next_of n at ≡ at + 1) × (at + 1 < n) ⊎ (next_of n at ≡ 0) × (at + 1 ≡ n)
 next_cases n at h = elim (cases_lt (at + 1) n) [
   | inl lt ↦ inl (next_inner n at lt, lt)
@@ -38,7 +38,7 @@ steps_within n a b h k = elim (steps_cases n a b) [ inl e ↦ omega arith | inr 
 pub steps_none : (n a b : ℕ) → a < n → b < n → steps n a b ≡ 0 → a ≡ b
 steps_none n a b h k z = elim (steps_cases n a b) [ inl e ↦ absurd (omega arith) | inr e ↦ omega arith ]
 
--- from the next slot on it is one step less
+-- from the next bucket on it is one step less
 pub steps_from_next : (n a b : ℕ) → a < n → b < n → b ≢ a → steps n (next_of n a) b + 1 ≡ steps n a b
 steps_from_next n a b h k ne = elim (next_cases n a h) [
   | inl e ↦ elim (steps_cases n a b) [
@@ -51,7 +51,7 @@ steps_from_next n a b h k ne = elim (next_cases n a h) [
   ]
 ]
 
--- to the next slot it is one step more
+-- to the next bucket it is one step more
 pub steps_to_next : (n a b : ℕ) → a < n → b < n → next_of n b ≢ a → steps n a (next_of n b) ≡ steps n a b + 1
 steps_to_next n a b h k ne = elim (next_cases n b k) [
   | inl e ↦ elim (steps_cases n a b) [
@@ -64,7 +64,7 @@ steps_to_next n a b h k ne = elim (next_cases n b k) [
   ]
 ]
 
--- the steps between two slots, by how far each is from a third
+-- the steps between two buckets, by how far each is from a third
 pub steps_beyond : (n o a b : ℕ) → o < n → a < n → b < n → (steps n a b + steps n o a ≡ steps n o b) × (steps n o a ≤ steps n o b)
     ⊎ (steps n a b + steps n o a ≡ steps n o b + n) × (steps n o b < steps n o a)
 steps_beyond n o a b h k l = elim (steps_cases n o a) [

@@ -1,4 +1,4 @@
--- An entry in the empty slot at which the search for its mark ends.
+-- An entry in the empty bucket at which the search for its mark ends.
 use Rattle.std.proofs.Common.{◌≡◌, ◌≢◌, ℕ, ◌<◌, ◌≤◌, List, length, set, sym, ap, ◌∙◌, subst, arith, inl, inr}
 use Rattle.std.proofs.lemmas.Bool.{cases_eq, cases_lt}
 use Rattle.std.proofs.lemmas.List.{length-set, get_or-set_same, get_or-set_other}
@@ -7,7 +7,7 @@ use Rattle.concurrent_lru.specs.Probing.Probes.{mark_at, IsEmptyAt, IsFilledAt, 
 use Rattle.concurrent_lru.proofs.Probing.Circle.{home_within, steps_same}
 use Rattle.concurrent_lru.proofs.Probing.Runs.{is_end}
 
--- the empty slot at which the search for a mark ends
+-- the empty bucket at which the search for a mark ends
 pub record Ends (ms : List ℕ) (mark at : ℕ) : Type 0 where
   pub within : at < length ms
   pub is_empty : IsEmptyAt ms at
@@ -18,7 +18,7 @@ ends_at ms mark at some is =
     let home : ℕ = home_of (length ms) mark in
     let within : some.0 < length ms = some.1 in
     let e = is_end ms some.0 some.1 some.2 home (home_within (length ms) mark (omega arith)) in
-    subst (Ends ms mark) (sym is) (record { within = e.in_slots; is_empty = e.is_empty; before = e.before })
+    subst (Ends ms mark) (sym is) (record { within = e.in_buckets; is_empty = e.is_empty; before = e.before })
 
 pub fills : (ms : List ℕ) (mark at : ℕ) → Ends ms mark at → mark ≢ 0 → IsReached ms → IsReached (set ms at mark)
 fills ms mark at e filled r = subst (λ n. IsReachedIn n (set ms at mark)) (sym (length-set ms at mark)) reached

@@ -1,4 +1,4 @@
--- The hole that a removal leaves, from the slot that is emptied to where nothing is reached over
+-- The hole that a removal leaves, from the bucket that is emptied to where nothing is reached over
 -- it.
 use Rattle.std.proofs.Common.{◌≡◌, ◌≢◌, ℕ, ◌+◌, ◌-◌, ◌<◌, ◌≤◌, List, length, set, sym, ap, ◌∙◌, subst, arith, inl, inr}
 use Rattle.std.proofs.lemmas.Bool.{cases_eq, cases_lt}
@@ -39,30 +39,30 @@ module _ (n end : ℕ) (within : end < n) where
   rank_same : (a b : ℕ) → a < n → b < n → rank n end a ≡ rank n end b → a ≡ b
   rank_same a b h k e = steps_same n (next_of n end) a b after_within h k e
 
-  -- the steps between two slots by their ranks
+  -- the steps between two buckets by their ranks
   rank_steps : (a b : ℕ) → a < n → b < n → rank n end a ≤ rank n end b → steps n a b + rank n end a ≡ rank n end b
   rank_steps a b h k le = elim (steps_beyond n (next_of n end) a b after_within h k) [ inl e ↦ e.0 | inr e ↦ absurd (omega arith) ]
 
   rank_round : (a b : ℕ) → a < n → b < n → rank n end b < rank n end a → steps n a b + rank n end a ≡ rank n end b + n
   rank_round a b h k lt = elim (steps_beyond n (next_of n end) a b after_within h k) [ inl e ↦ absurd (omega arith) | inr e ↦ e.0 ]
 
-  -- no search goes over an empty slot, so ranks say what is reached
+  -- no search goes over an empty bucket, so ranks say what is reached
   module _ (ms : List ℕ) (long : length ms ≡ n) (ends : IsEmptyAt ms end) (r : IsReachedIn n ms) where
-    in_slots : (k : ℕ) → IsFilledAt ms k → k < n
-    in_slots k full = let lt : k < length ms = filled_within ms k full in omega arith
+    in_buckets : (k : ℕ) → IsFilledAt ms k → k < n
+    in_buckets k full = let lt : k < length ms = filled_within ms k full in omega arith
 
-    home_in_slots : (k : ℕ) → home_of n (mark_at ms k) < n
-    home_in_slots k = home_within n (mark_at ms k) (omega arith)
+    home_in_buckets : (k : ℕ) → home_of n (mark_at ms k) < n
+    home_in_buckets k = home_within n (mark_at ms k) (omega arith)
 
     pub upright_from : (k : ℕ) → IsFilledAt ms k → rank n end (home_of n (mark_at ms k)) ≤ rank n end k
     upright_from k full =
         let home : ℕ = home_of n (mark_at ms k) in
         elim (cases_lt (rank n end k) (rank n end home)) [
           | inl lt ↦
-              let round : steps n home k + rank n end home ≡ rank n end k + n = rank_round home k (home_in_slots k) (in_slots k full) lt in
-              let far : rank n end home < n = rank_within home (home_in_slots k) in
+              let round : steps n home k + rank n end home ≡ rank n end k + n = rank_round home k (home_in_buckets k) (in_buckets k full) lt in
+              let far : rank n end home < n = rank_within home (home_in_buckets k) in
               let last : rank n end end + 1 ≡ n = rank_end in
-              let to_end : steps n home end + rank n end home ≡ rank n end end = rank_steps home end (home_in_slots k) within (omega arith) in
+              let to_end : steps n home end + rank n end home ≡ rank n end end = rank_steps home end (home_in_buckets k) within (omega arith) in
               absurd (r k end full within (omega arith) ends)
           | inr le ↦ le
         ]
@@ -70,8 +70,8 @@ module _ (n end : ℕ) (within : end < n) where
     pub reached_from : (k m : ℕ) → IsFilledAt ms k → m < n → rank n end (home_of n (mark_at ms k)) ≤ rank n end m → rank n end m ≤ rank n end k → IsFilledAt ms m
     reached_from k m full lt from to =
         let home : ℕ = home_of n (mark_at ms k) in
-        let one : steps n home m + rank n end home ≡ rank n end m = rank_steps home m (home_in_slots k) lt from in
-        let two : steps n home k + rank n end home ≡ rank n end k = rank_steps home k (home_in_slots k) (in_slots k full) (omega arith) in
+        let one : steps n home m + rank n end home ≡ rank n end m = rank_steps home m (home_in_buckets k) lt from in
+        let two : steps n home k + rank n end home ≡ rank n end k = rank_steps home k (home_in_buckets k) (in_buckets k full) (omega arith) in
         r k m full lt (omega arith)
 
   reached_to : (ms : List ℕ) → length ms ≡ n
@@ -119,7 +119,7 @@ gap_start n ms at long some lt full r =
       upright = λ k h. let up = upright_from n end within ms long some.2 r k (was k h) in let s = same k h in subst (λ t. rank n end t ≤ rank n end k) (sym s) up;
       reached = λ k m h in_m above below. elim (cases_eq m at) [
         | inl e ↦
-            let in_k : k < n = in_slots n end within ms long some.2 r k (was k h) in
+            let in_k : k < n = in_buckets n end within ms long some.2 r k (was k h) in
             inr (
               e,
               elim (cases_lt (rank n end at) (rank n end k)) [
@@ -152,7 +152,7 @@ module _ (n : ℕ) (ms : List ℕ) (start hole at : ℕ) (g : IsGap n ms start h
   more : rank n g.end (next_of n at) ≡ rank n g.end at + 1
   more = rank_next n g.end g.end_within at g.at_within not_end
 
-  -- the next slot is further on
+  -- the next bucket is further on
   pub gap_further : n - steps n start (next_of n at) < n - steps n start at
   gap_further =
       let began = g.began in
@@ -172,7 +172,7 @@ module _ (n : ℕ) (ms : List ℕ) (start hole at : ℕ) (g : IsGap n ms start h
   home_before : rank n g.end home ≤ rank n g.end at
   home_before = g.upright at full
 
-  -- another slot that is not nearer than this one is further on than this one
+  -- another bucket that is not nearer than this one is further on than this one
   beyond : (k : ℕ) → IsFilledAt ms k → k ≢ at → rank n g.end at ≤ rank n g.end k → rank n g.end (next_of n at) ≤ rank n g.end k
   beyond k h ne le = elim (cases_lt (rank n g.end at) (rank n g.end k)) [
     | inl lt ↦ let m = more in omega arith

@@ -1,4 +1,4 @@
--- The run of filled slots from a slot on, and the empty slot after it.
+-- The run of filled buckets from a bucket on, and the empty bucket after it.
 use Rattle.std.proofs.Common.{◌≡◌, ◌≢◌, ℕ, zero, suc, ◌+◌, ◌<◌, ◌≤◌, cond, true, List, [], ◌∷◌, length, refl, sym, ap, ◌∙◌, subst, arith, eqb, inl, inr, ◌||◌}
 use Rattle.std.specs.List.{list_any, filter}
 use Rattle.std.proofs.lemmas.Bool.{cases_eq, eq-eqb, ne_eqb}
@@ -26,8 +26,8 @@ module _ (ms : List ℕ) where
     apart : (at : ℕ) → IsFilledAt ms at → e ≢ at
     apart at h is = h (ap (mark_at ms) (sym is) ∙ empty)
 
-    -- what goes on at filled slots and stops at empty ones has enough steps with those that come to
-    -- an empty slot
+    -- what goes on at filled buckets and stops at empty ones has enough steps with as many as reach
+    -- an empty bucket
     enough : {X : Type 0} (f : ℕ → ℕ → X) (stop : ℕ → X) (go : ℕ → X → X) → ((more at : ℕ) → IsEmptyAt ms at → f more at ≡ stop at) → ((more at : ℕ) → IsFilledAt ms at → f (suc more) at ≡ go at (f more (next_of (length ms) at)))
         → (more at : ℕ) → at < length ms → steps (length ms) at e < more → f (suc more) at ≡ f more at
     enough f stop go stops goes zero at lt h = absurd (omega arith)
@@ -57,14 +57,14 @@ module _ (ms : List ℕ) where
     by_length zero long at lt h = absurd (omega arith)
     by_length (suc n) long at lt h = step_on n at long lt h
 
-    -- the run from a filled slot goes on with the next
+    -- the run from a filled bucket goes on with the next
     pub run_on : (at : ℕ) → at < length ms → IsFilledAt ms at → run_at ms at ≡ at ∷ run_at ms (next_of (length ms) at)
     run_on at lt h = (by_length (length ms) refl at lt h).0
 
     pub end_on : (at : ℕ) → at < length ms → IsFilledAt ms at → end_at ms at ≡ end_at ms (next_of (length ms) at)
     end_on at lt h = (by_length (length ms) refl at lt h).1
 
-    -- slots that are all filled lead from one to another
+    -- buckets that are all filled lead from one to another
     pub end_along : (d at k : ℕ) → at < length ms → k < length ms → steps (length ms) at k ≡ d
         → ((m : ℕ) → m < length ms → steps (length ms) at m < d → IsFilledAt ms m) → end_at ms at ≡ end_at ms k
     end_along zero at k lt in_k is all = ap (end_at ms) (steps_none (length ms) at k lt in_k is)
@@ -95,16 +95,16 @@ module _ (ms : List ℕ) where
           | inr other ↦ let s : steps (length ms) (next_of (length ms) at) m + 1 ≡ steps (length ms) at m = steps_from_next (length ms) at m lt in_m other in all m in_m (omega arith)
         ])
 
-    -- where a run ends: an empty slot, and all before it are filled
+    -- where a run ends: an empty bucket, and all before it are filled
     pub record IsEnd (at k : ℕ) : Type 0 where
-      pub in_slots : k < length ms
+      pub in_buckets : k < length ms
       pub is_empty : IsEmptyAt ms k
       pub before : (m : ℕ) → m < length ms → steps (length ms) at m < steps (length ms) at k → IsFilledAt ms m
 
     here_ends : (at : ℕ) → at < length ms → IsEmptyAt ms at → IsEnd at (end_at ms at)
     here_ends at lt none =
         let here : steps (length ms) at at ≡ 0 = steps_self (length ms) at in
-        subst (IsEnd at) (sym (end_empty (length ms) at none)) (record { in_slots = lt; is_empty = none; before = λ m in_m near. absurd (omega arith) })
+        subst (IsEnd at) (sym (end_empty (length ms) at none)) (record { in_buckets = lt; is_empty = none; before = λ m in_m near. absurd (omega arith) })
 
     end_by : (d at : ℕ) → at < length ms → steps (length ms) at e ≡ d → IsEnd at (end_at ms at)
     end_by zero at lt is = here_ends at lt (ap (mark_at ms) (steps_none (length ms) at e lt within is) ∙ empty)
@@ -115,9 +115,9 @@ module _ (ms : List ℕ) where
           let step : steps (length ms) next e + 1 ≡ steps (length ms) at e = steps_from_next (length ms) at e lt within (apart at full) in
           let rest : IsEnd next (end_at ms next) = end_by d next (next_within (length ms) at lt) (omega arith) in
           let far : end_at ms next ≢ at = λ is. full (ap (mark_at ms) (sym is) ∙ rest.is_empty) in
-          let whole : steps (length ms) next (end_at ms next) + 1 ≡ steps (length ms) at (end_at ms next) = steps_from_next (length ms) at (end_at ms next) lt rest.in_slots far in
+          let whole : steps (length ms) next (end_at ms next) + 1 ≡ steps (length ms) at (end_at ms next) = steps_from_next (length ms) at (end_at ms next) lt rest.in_buckets far in
           subst (IsEnd at) (sym (end_on at lt full)) (record {
-            in_slots = rest.in_slots;
+            in_buckets = rest.in_buckets;
             is_empty = rest.is_empty;
             before = λ m in_m near. elim (cases_eq m at) [
               | inl e ↦ subst (IsFilledAt ms) (sym e) full
@@ -132,7 +132,7 @@ module _ (ms : List ℕ) where
     pub at_end : (at : ℕ) → IsEmptyAt ms at → (run_at ms at ≡ []) × (end_at ms at ≡ at)
     at_end at none = (run_empty (length ms) at none, end_empty (length ms) at none)
 
-  -- a walk: past a slot with the mark, past one with another mark, and at its end
+  -- a walk: past a bucket with the mark, past one with another mark, and at its end
   pub walk_here : (mark at : ℕ) → HasEmpty ms → at < length ms → mark ≢ 0 → mark_at ms at ≡ mark → walk_at ms mark at ≡ at ∷ walk_at ms mark (next_of (length ms) at)
   walk_here mark at some lt filled is =
       ap (filter (λ k. eqb (mark_at ms k) mark)) (run_on some.0 some.1 some.2 at lt (λ none. filled (sym is ∙ none)))

@@ -24,7 +24,7 @@ use Rattle.concurrent_lru.specs.contracts.node_table.memory.At as at
 use Rattle.concurrent_lru.specs.contracts.node_table.memory.Memory as memory
 use Rattle.concurrent_lru.specs.contracts.node_table.open_table.OpenTable as open_table
 use Rattle.concurrent_lru.specs.contracts.node_table.open_table.OpenTable.TheInside as open_table_inside
-use Rattle.concurrent_lru.specs.contracts.node_table.probes.Slot as entry
+use Rattle.concurrent_lru.specs.contracts.node_table.probes.Bucket as entry
 use Rattle.concurrent_lru.specs.contracts.node_table.slots.Slots as slots
 use Rattle.concurrent_lru.specs.contracts.lru_core.State as state
 use Rattle.concurrent_lru.specs.contracts.lru_core.State.TheInside as state_inside

@@ -1,41 +1,41 @@
--- The entries of a list of slots, whichever slots they are in.
+-- The entries of a list of buckets, whichever buckets they are in.
 use Rattle.std.specs.Prelude.{◌≡◌, ◌≢◌, ℕ, ◌==◌, List, Some, not, count_by, slice_get, ◌⊎◌}
-use Rattle.concurrent_lru.specs.declared.node_table.probes.Slot.{Slot}
+use Rattle.concurrent_lru.specs.declared.node_table.probes.Bucket.{Bucket}
 
 module _ {T : Type 0} where
-  -- the slot k is filled, with s
-  pub record Holds (slots : List (Slot T)) (k : ℕ) (s : Slot T) : Type 0 where
-    pub is : slice_get slots k ≡ Some s
+  -- the bucket k is filled, with s
+  pub record Holds (buckets : List (Bucket T)) (k : ℕ) (s : Bucket T) : Type 0 where
+    pub is : slice_get buckets k ≡ Some s
     pub filled : s.mark ≢ 0
 
-  -- some slot is filled with s
-  abbrev pub Has : List (Slot T) → Slot T → Type 0
-  Has slots s = (k : ℕ) × Holds slots k s
+  -- some bucket is filled with s
+  abbrev pub Has : List (Bucket T) → Bucket T → Type 0
+  Has buckets s = (k : ℕ) × Holds buckets k s
 
-  abbrev pub entry : ℕ → T → Slot T
+  abbrev pub entry : ℕ → T → Bucket T
   entry mark item = record { mark = mark; item = item }
 
-  -- no item is in two slots
-  abbrev pub AreApart : List (Slot T) → Type 0
-  AreApart slots = (k l : ℕ) (r s : Slot T) → Holds slots k r → Holds slots l s → r.item ≡ s.item → k ≡ l
+  -- no item is in two buckets
+  abbrev pub AreApart : List (Bucket T) → Type 0
+  AreApart buckets = (k l : ℕ) (r s : Bucket T) → Holds buckets k r → Holds buckets l s → r.item ≡ s.item → k ≡ l
 
-  -- the number of filled slots
-  abbrev pub count : List (Slot T) → ℕ
-  count slots = count_by (λ s. not (s.mark == 0)) slots
+  -- the number of filled buckets
+  abbrev pub count : List (Bucket T) → ℕ
+  count buckets = count_by (λ s. not (s.mark == 0)) buckets
 
   -- the entries of old and new are the same
-  pub record IsSame (old new : List (Slot T)) : Type 0 where
-    pub kept : (s : Slot T) → Has old s → Has new s
-    pub from : (s : Slot T) → Has new s → Has old s
+  pub record IsSame (old new : List (Bucket T)) : Type 0 where
+    pub kept : (s : Bucket T) → Has old s → Has new s
+    pub from : (s : Bucket T) → Has new s → Has old s
 
   -- the entries of new are those of old, and s
-  pub record Adds (old new : List (Slot T)) (s : Slot T) : Type 0 where
+  pub record Adds (old new : List (Bucket T)) (s : Bucket T) : Type 0 where
     pub here : Has new s
-    pub kept : (r : Slot T) → Has old r → Has new r
-    pub from : (r : Slot T) → Has new r → (r ≡ s) ⊎ Has old r
+    pub kept : (r : Bucket T) → Has old r → Has new r
+    pub from : (r : Bucket T) → Has new r → (r ≡ s) ⊎ Has old r
 
   -- the entries of new are those of old, except the one with this item
-  pub record Removes (old new : List (Slot T)) (item : T) : Type 0 where
-    pub gone : (r : Slot T) → Has new r → r.item ≢ item
-    pub kept : (r : Slot T) → Has old r → r.item ≢ item → Has new r
-    pub from : (r : Slot T) → Has new r → Has old r
+  pub record Removes (old new : List (Bucket T)) (item : T) : Type 0 where
+    pub gone : (r : Bucket T) → Has new r → r.item ≢ item
+    pub kept : (r : Bucket T) → Has old r → r.item ≢ item → Has new r
+    pub from : (r : Bucket T) → Has new r → Has old r

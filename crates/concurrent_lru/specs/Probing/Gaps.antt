@@ -1,13 +1,13 @@
--- A slot that was emptied, while the entries after it are moved back.
+-- A bucket that was emptied, while the entries after it are moved back.
 use Rattle.std.specs.Prelude.{◌≡◌, ◌≢◌, ℕ, ◌<◌, ◌≤◌, List, length, ◌⊎◌}
 use Rattle.concurrent_lru.specs.Probing.Cycle.{next_of, steps, home_of}
 use Rattle.concurrent_lru.specs.Probing.Probes.{mark_at, IsEmptyAt, IsFilledAt}
 
--- the distance of a slot from the one after the empty slot `end`, where every search ends
+-- the distance of a bucket from the one after the empty bucket `end`, where every search ends
 abbrev pub rank : ℕ → ℕ → ℕ → ℕ
 rank n end k = steps n (next_of n end) k
 
--- among n slots `hole` is empty; the slots after `start` and before `at` are done, and an entry
+-- among n buckets `hole` is empty; the buckets after `start` and before `at` are done, and an entry
 -- whose search crosses the hole is at `at` or after it
 pub record IsGap (n : ℕ) (ms : List ℕ) (start hole at : ℕ) : Type 0 where
   pub end : ℕ

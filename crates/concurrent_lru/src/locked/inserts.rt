@@ -47,7 +47,7 @@ impl<K: Hash + Eq + Clone + Drop, V: Drop, F: Fit<K, V>> Locked<K, V, F> {
         self.insert(key, charge, stored, read)
     }
 
-    /// The core's `insert_strictly`, with pin and seals as `insert` has them.
+    /// The core's `insert_strictly`, with the pin and the seals of `insert`.
     ///
     /// Returns `Full`, `Overflow` and `Memory` as there: then no entry changes, and both `Arc`s are
     /// sealed.

@@ -1,4 +1,4 @@
-//! Who may wait for what a call under the lock did, as a debt: they are to be woken.
+//! The callers that may wait for what a call under the lock did, as a debt: they are to be woken.
 ghost use Rattle.std.specs.Prelude.{◌≡◌};
 
 use std::marker::Model;

@@ -37,7 +37,7 @@ pub struct EntryRef<'a, K, V> {
 #[derive(Drop)]
 pub struct Entries<'a, K: Hash + Eq + Clone, V, M: Sharing<V> = ByArc> {
     table: &'a Table<K, Stored<V, M>>,
-    // The number of the next place, and one above those of all places that have an entry.
+    // The number of the next place, and a number above those of all places that have an entry.
     next: usize,
     end: usize,
 }

@@ -17,7 +17,8 @@ impl<K: Hash + Eq + Clone, V: Drop, M: Sharing<V>> State<K, V, M>
 where
     M::Share: Drop,
 {
-    // `read` that shares the value, as `get` does: a `get`, and the release of its pin.
+    // Does what `read` does, and shares the value as `get` does: a `get`, and the release of its
+    // pin.
     fn read_shared(&mut self, key: &K) -> Result<Option<(u64, M::Share)>, Refusal>
         ensures step { Stands K.eq self.old.cache (ask.read key.now)
             (outcome_of_read_by M.seen result) self.new.cache }
@@ -26,6 +27,7 @@ where
         ensures same { OnErr result (self.new.work ≡ self.old.work) }
         ensures lawful { IsLawful K.eq self.new.cache }
     {
+        // The checker opens the invariant of `self`, which the proof uses, where a field is read.
         let _ = &self.alloc;
         let Some((stamp, value)) = self.get(key)? else {
             return Ok(None);
@@ -153,7 +155,7 @@ where
     }
 }
 
-// Pushes an item, for which there is room, so that the push is never refused.
+// Pushes an item. There must be room for it; then the push is never refused.
 fn push_within<T: Drop>(items: &mut Vec<T>, item: T)
     requires { vec_len items.old < vec_capacity items.old }
     ensures items { items.new.items ≡ items.old.items ++ item ∷ [] }

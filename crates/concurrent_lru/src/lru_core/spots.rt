@@ -89,8 +89,8 @@ where
         self.begin_at(key, charge)
     }
 
-    // Whether `begin_strictly` is refused as `Full`: the capacity has no room for the charge, and
-    // the key finds no entry.
+    // Returns whether `begin_strictly` is refused as `Full`: the capacity has no room for the
+    // charge, and the key finds no entry.
     #[inline(always)]
     pub(crate) fn is_full_for(&self, key: &K, charge: u64) -> bool
         ensures yes { IsTrue result → LacksCapacityFor self.now.cache charge
@@ -102,8 +102,8 @@ where
         self.lacks_capacity_for(charge) && self.lacks_entry(key)
     }
 
-    // Whether a charge exceeds the capacity together with the charges of the held entries. The idle
-    // entries do not count, since they would leave.
+    // Returns whether a charge exceeds the capacity together with the charges of the held entries.
+    // The idle entries do not count, since they would leave.
     #[inline(always)]
     pub(crate) fn lacks_capacity_for(&self, charge: u64) -> bool
         ensures yes { IsTrue result → LacksCapacityFor self.now.cache charge }
@@ -114,7 +114,7 @@ where
         pinned > self.capacity || charge > self.capacity - pinned
     }
 
-    // Whether the key finds no entry, in any phase.
+    // Returns whether the key finds no entry, in any phase.
     fn lacks_entry(&self, key: &K) -> bool
         ensures yes { IsTrue result → IsAbsent K.eq self.now.cache key.now }
         ensures no { IsFalse result → IsAbsent K.eq self.now.cache key.now → ⊥ }
@@ -332,15 +332,15 @@ where
             return Err(Refusal::Stale);
         };
         let Found { place, near, node } = found;
-        let holders = node.pins;
+        let pins = node.pins;
         let Phase::Ready(_) = &node.phase else {
             return Err(Refusal::Stale);
         };
-        if holders == 0 {
+        if pins == 0 {
             return Err(Refusal::Stale);
         }
-        if holders > 1 {
-            self.table.set_pins(place, near, holders - 1);
+        if pins > 1 {
+            self.table.set_pins(place, near, pins - 1);
             return Ok(Evicted::none());
         }
         // The total only falls, so nothing else has to leave.
@@ -359,14 +359,14 @@ where
             return Err(Refusal::Stale);
         };
         let Found { place, near, node } = found;
-        let holders = node.pins;
+        let pins = node.pins;
         let Phase::Ready(_) = &node.phase else {
             return Err(Refusal::Stale);
         };
-        if holders == self.most_pins {
+        if pins == self.most_pins {
             return Err(Refusal::Overflow);
         }
-        let stored = self.table.pin(place, near, holders)?;
+        let stored = self.table.pin(place, near, pins)?;
         Ok(stored.into_share())
     }
 
@@ -454,7 +454,7 @@ where
             return Ok((Spot { stamp, hint }, Evicted::none(), evicted));
         };
         let Found { place, node, .. } = found;
-        let (pins, own) = (node.pins, node.charge);
+        let (pins, old_charge) = (node.pins, node.charge);
         if pins > 0 {
             if charge > u64::MAX - self.table.total() || stamp == u64::MAX {
                 return Err(Refusal::Overflow);
@@ -468,7 +468,7 @@ where
             return Ok((Spot { stamp, hint }, Evicted::none(), evicted));
         }
         // An idle entry leaves with its charge.
-        let rest = self.table.total() - own;
+        let rest = self.table.total() - old_charge;
         if charge > u64::MAX - rest || stamp == u64::MAX {
             return Err(Refusal::Overflow);
         }

@@ -7,14 +7,14 @@ use crate::node_table::{Node, Phase};
 impl<K: Drop, V: Drop> Node<K, V> {
     ghost use Rattle.concurrent_lru.specs.Relinks.{IsPlaced, IsRelinked, IsRevalued, before_link, after_link};
 
-    // Sets the node's own slot.
+    // Sets the slot of the node.
     pub(super) fn set_slot(&mut self, slot: usize)
         ensures { IsPlaced self.old self.new slot }
     {
         self.slot = slot;
     }
 
-    // Returns the node before it in the idle order.
+    // Returns the link to the node before this one in the idle order, if there is one.
     pub(super) fn before_link(&self) -> Option<*mut Node<K, V>>
         ensures { result ≡ before_link self.now }
     {
@@ -24,7 +24,7 @@ impl<K: Drop, V: Drop> Node<K, V> {
         None
     }
 
-    // Returns the node after it in the idle order.
+    // Returns the link to the node after this one in the idle order, if there is one.
     pub(super) fn after_link(&self) -> Option<*mut Node<K, V>>
         ensures { result ≡ after_link self.now }
     {
@@ -72,7 +72,7 @@ impl<K: Drop, V: Drop> Node<K, V> {
         self.set_after(after);
     }
 
-    // The node states itself what a write leaves of the chain and the links.
+    // The contract of each setter below says of the node itself that its chain and links stay.
     pub(super) fn set_pins(&mut self, pins: u32)
         ensures { IsRevalued self.old self.new (entry_with_pins pins (entry_of self.old)) }
     {

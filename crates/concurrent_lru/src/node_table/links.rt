@@ -32,11 +32,11 @@ impl<K: Drop, V: Drop> Order<K, V> {
         }
     }
 
-    // Makes the node at the end of a link the newest idle one. The slot is the node's own.
+    // Makes the node that the pointer leads to, in this slot, the newest idle one.
     #[inline(always)]
-    pub(super) fn push(&mut self, own: *mut Node<K, V>, slot: usize)
+    pub(super) fn push(&mut self, pointer: *mut Node<K, V>, slot: usize)
         requires linked { IsWellLinked self.old }
-        requires own { LeadsTo self.old.slots own slot }
+        requires own { LeadsTo self.old.slots pointer slot }
         requires held { Omits self.old slot }
         ensures linked { IsWellLinked self.new }
         ensures nodes { nodes_of self.new ≡ nodes_of self.old }
@@ -46,15 +46,16 @@ impl<K: Drop, V: Drop> Order<K, V> {
         ensures looks { self.new.slots.looks ≡ self.old.slots.looks }
     {
         let newest = self.newest;
-        self.slots.follow_mut(own).set_links(newest, None);
-        self.newest = Some(own);
+        self.slots.follow_mut(pointer).set_links(newest, None);
+        self.newest = Some(pointer);
         match newest {
-            Some(last) => self.slots.follow_mut(last).set_after(Some(own)),
+            Some(last) => self.slots.follow_mut(last).set_after(Some(pointer)),
             None => self.oldest = Some(slot),
         }
     }
 
-    // Joins the neighbours of a removed node, from the side of the one before it, or of the end.
+    // Joins the neighbours of a removed node at the side of the one before it: sets that one's
+    // link, or the oldest end of the order.
     fn join_left(&mut self, before: Option<*mut Node<K, V>>, after: Option<*mut Node<K, V>>)
         requires tied { IsTied self.old.slots }
         requires before { IsGood (cells_of self.old.slots) before }
@@ -69,7 +70,7 @@ impl<K: Drop, V: Drop> Order<K, V> {
         }
     }
 
-    // Joins them from the side of the one after it.
+    // Joins them at the side of the one after it: sets that one's link, or the newest end.
     fn join_right(&mut self, before: Option<*mut Node<K, V>>, after: Option<*mut Node<K, V>>)
         requires { IsGood (cells_of self.old.slots) after }
         ensures oldest { self.new.oldest ≡ self.old.oldest }
@@ -82,19 +83,19 @@ impl<K: Drop, V: Drop> Order<K, V> {
         }
     }
 
-    // Removes the node at the end of a link from the idle order.
+    // Removes the node that the pointer leads to from the idle order.
     #[inline(always)]
-    pub(super) fn cut(&mut self, own: *mut Node<K, V>)
+    pub(super) fn cut(&mut self, pointer: *mut Node<K, V>)
         requires linked { IsWellLinked self.old }
-        requires idle { ListsLink self.old own }
+        requires idle { ListsLink self.old pointer }
         ensures linked { IsWellLinked self.new }
         ensures nodes { nodes_of self.new ≡ nodes_of self.old }
-        ensures idle { LosesLink self.old self.new own }
+        ensures idle { LosesLink self.old self.new pointer }
         ensures rest { OnlyLooksAndWrites self.old.slots self.new.slots }
         ensures listings { KeepsListings (cells_of self.old.slots) (cells_of self.new.slots) }
         ensures looks { self.new.slots.looks ≡ self.old.slots.looks }
     {
-        let node = self.slots.follow_mut(own);
+        let node = self.slots.follow_mut(pointer);
         let before = node.before_link();
         let after = node.after_link();
         node.set_links(None, None);

@@ -1,15 +1,15 @@
-//! Items by hash in one array of slots, with linear probing.
+//! Items by hash in one array of buckets, with linear probing.
 //!
 //! The table compares no keys: a walk yields the items of one hash, and the caller compares what
-//! they lead to. A removal moves back what follows it, so no slot is ever marked as deleted, and
+//! they lead to. A removal moves back what follows it, so no bucket is ever marked as deleted, and
 //! removals take no memory.
 //!
-//! A slot is a hash and an item, 16 bytes where an item has 8. At most half of the slots are
-//! filled: among random hashes a lookup then reads at most 1.5 slots on average if it finds its
-//! item, and 2.5 if it does not, which mostly lie in one cache line. With seven slots in eight
-//! filled they would be 4.5 and 32.5.
+//! A bucket is a hash and an item, 16 bytes where an item has 8. At most half of the buckets are
+//! filled: among random hashes a lookup then reads at most 1.5 buckets on average if it finds its
+//! item, and 2.5 if it does not, which mostly lie in one cache line. If seven buckets in eight were
+//! filled, it would read 4.5 and 32.5.
 //!
-//! The lowest bits of a hash choose the slot at which its walk begins. A caller that has already
+//! The lowest bits of a hash choose the bucket at which its walk begins. A caller that has already
 //! divided items by some bits of their hashes, as among shards, must have used others.
 ghost use Rattle.std.specs.Prelude.{◌≡◌, ◌≢◌, ℕ, ◌+◌, ◌<◌, ◌≤◌, [], ◌∷◌, Contains, OnOk, OnErr, IsTrue};
 ghost use Rattle.concurrent_lru.specs.Probing.Probes.{mark_at, marks_of};
@@ -18,7 +18,7 @@ ghost use Rattle.concurrent_lru.specs.Probing.OpenTable.{mark_of as mark_for, ca
 
 use crate::linear_probing::{home_of, next_of};
 use crate::node_table::probes::{
-    Cursor, Slot, Step, copy_all, empty_slots, find_mark, mark_of, put, take_out,
+    Bucket, Cursor, Step, copy_all, empty_buckets, find_mark, mark_of, put, take_out,
 };
 use std::alloc::{AllocError, Global};
 use std::marker::Model;
@@ -26,36 +26,36 @@ use std::marker::Model;
 /// Items by hash. No item may be in it twice.
 #[derive(Drop)]
 pub(super) struct OpenTable<T: Copy> {
-    slots: Vec<Slot<T>>,
+    buckets: Vec<Bucket<T>>,
     len: usize,
-    // What empty slots hold.
+    // What empty buckets hold.
     filler: T,
 }
 
 impl<T: Copy> Model for OpenTable<T> {
     ghost use Rattle.std.specs.Prelude.{List};
     ghost use Rattle.std.specs.Coded.{coded_list};
-    ghost use Rattle.concurrent_lru.specs.declared.node_table.probes.Slot.{Slot as Slot_};
-    ghost use Rattle.concurrent_lru.specs.Probing.OpenTable.{slot_code, IsTable};
+    ghost use Rattle.concurrent_lru.specs.declared.node_table.probes.Bucket.{Bucket as Bucket_};
+    ghost use Rattle.concurrent_lru.specs.Probing.OpenTable.{bucket_code, IsTable};
 
-    ghost Value = { List (Slot_ T) };
+    ghost Value = { List (Bucket_ T) };
 
-    ghost coded = { coded_list (slot_code T.code) };
+    ghost coded = { coded_list (bucket_code T.code) };
 
-    ghost view = { λ a. a.slots.items };
+    ghost view = { λ a. a.buckets.items };
 
-    ghost invariant = { λ a. IsTable a.slots.items a.len };
+    ghost invariant = { λ a. IsTable a.buckets.items a.len };
 }
 
 impl<T: Copy> OpenTable<T> {
     /// Creates a table with no items and no room. Takes no memory.
     ///
-    /// `filler` is what empty slots hold; it is never returned.
+    /// `filler` is what empty buckets hold; it is never returned.
     pub(super) fn new(alloc: Global, filler: T) -> OpenTable<T>
         ensures { result ≡ [] }
     {
         OpenTable {
-            slots: Vec::new(alloc),
+            buckets: Vec::new(alloc),
             len: 0,
             filler,
         }
@@ -68,10 +68,11 @@ impl<T: Copy> OpenTable<T> {
         self.len
     }
 
-    /// Makes room for a total of `entries` items: the smallest power of two that is at least twice
-    /// as many slots, 16 bytes each where an item has 8. Nothing else takes memory.
+    /// Reserves room for a total of `entries` items. The number of buckets grows to the smallest
+    /// power of two that is at least `2 * entries`, and each takes 16 bytes where an item has 8. No
+    /// other call takes memory.
     ///
-    /// Returns an error if there is no memory, or no such number; then nothing changes.
+    /// Returns an error if there is no memory, or no such power of two; then nothing changes.
     pub(super) fn reserve(&mut self, entries: usize) -> Result<(), AllocError>
         ensures room { OnOk result (entries ≤ capacity self.new) }
         ensures stays { capacity self.old ≤ capacity self.new }
@@ -79,7 +80,7 @@ impl<T: Copy> OpenTable<T> {
         ensures count { count self.new ≡ count self.old }
         ensures err { OnErr result (self.new ≡ self.old) }
     {
-        if entries <= self.slots.len() / 2 {
+        if entries <= self.buckets.len() / 2 {
             return Ok(());
         }
         let Some(half) = entries.checked_next_power_of_two() else {
@@ -88,38 +89,38 @@ impl<T: Copy> OpenTable<T> {
         let Some(count) = half.checked_mul(2) else {
             return Err(AllocError);
         };
-        let mut slots = empty_slots(*self.slots.allocator(), count, self.filler)?;
-        copy_all(&self.slots, &mut slots);
-        self.slots = slots;
+        let mut buckets = empty_buckets(*self.buckets.allocator(), count, self.filler)?;
+        copy_all(&self.buckets, &mut buckets);
+        self.buckets = buckets;
         Ok(())
     }
 
-    /// Begins a walk along the items with this hash: returns the first, if there is one.
+    /// Begins a walk along the items with this hash: returns the first one, if there is any.
     #[inline(always)]
     pub(super) fn first(&self, hash: u64) -> Step
         ensures mark { HasMark self.now (mark_for hash) result }
         ensures all { (k : ℕ) → mark_at (marks_of self.now) k ≡ mark_for hash
             → Contains (walk self.now result) k }
     {
-        let count = self.slots.len();
+        let count = self.buckets.len();
         if count == 0 {
             return Step::End;
         }
         let mark = mark_of(hash);
         let home = home_of(count, mark);
-        find_mark(&self.slots, mark, home)
+        find_mark(&self.buckets, mark, home)
     }
 
-    /// Goes on with a walk: returns the next item with the hash of this one, if there is one.
+    /// Continues a walk: returns the next item with the same hash, if there is any.
     #[inline(always)]
     pub(super) fn next(&self, cursor: Cursor) -> Step
         requires { IsFilled self.now cursor }
         ensures mark { HasMark self.now (mark_at (marks_of self.now) cursor) result }
         ensures rest { walk self.now (Step.Item cursor) ≡ cursor ∷ walk self.now result }
     {
-        let mark = self.slots[cursor.slot].mark;
-        let next = next_of(self.slots.len(), cursor.slot);
-        find_mark(&self.slots, mark, next)
+        let mark = self.buckets[cursor.bucket].mark;
+        let next = next_of(self.buckets.len(), cursor.bucket);
+        find_mark(&self.buckets, mark, next)
     }
 
     /// Returns whether an item lies at a cursor, which may be stale.
@@ -127,7 +128,7 @@ impl<T: Copy> OpenTable<T> {
     pub(super) fn is_filled(&self, cursor: Cursor) -> bool
         ensures { IsTrue result → IsFilled self.now cursor }
     {
-        cursor.slot < self.slots.len() && self.slots[cursor.slot].mark != 0
+        cursor.bucket < self.buckets.len() && self.buckets[cursor.bucket].mark != 0
     }
 
     /// Returns the item at a cursor.
@@ -136,10 +137,10 @@ impl<T: Copy> OpenTable<T> {
         requires { IsFilled self.now cursor }
         ensures { Holds self.now cursor (entry (mark_at (marks_of self.now) cursor) result) }
     {
-        self.slots[cursor.slot].item
+        self.buckets[cursor.bucket].item
     }
 
-    /// Adds an item, for which there is room. Takes no memory.
+    /// Adds an item. There must be room for it. Takes no memory.
     pub(super) fn insert(&mut self, hash: u64, item: T)
         requires room { count self.old < capacity self.old }
         requires absent { (s : _) → Has self.old s → s.item ≢ item }
@@ -148,7 +149,7 @@ impl<T: Copy> OpenTable<T> {
         ensures capacity { capacity self.new ≡ capacity self.old }
     {
         let mark = mark_of(hash);
-        put(&mut self.slots, mark, item);
+        put(&mut self.buckets, mark, item);
         self.len += 1;
     }
 
@@ -160,7 +161,7 @@ impl<T: Copy> OpenTable<T> {
         ensures count { count self.new + 1 ≡ count self.old }
         ensures capacity { capacity self.new ≡ capacity self.old }
     {
-        let item = take_out(&mut self.slots, cursor.slot);
+        let item = take_out(&mut self.buckets, cursor.bucket);
         self.len -= 1;
         item
     }

@@ -1,4 +1,5 @@
-//! Slots that are probed one after another, from the home of a mark to the first empty slot.
+//! Open addressing with linear probing: a search for a mark visits one bucket after another, from
+//! the home of the mark to the first empty bucket.
 ghost use Rattle.std.specs.Prelude.{◌≡◌, ◌≢◌, ℕ, ◌+◌, ◌<◌, length, bit_or, IfOk, vec_len};
 ghost use Rattle.concurrent_lru.specs.Probing.Cycle.{next_of as next_in};
 ghost use Rattle.concurrent_lru.specs.Probing.Probes.{marks_of, mark_at, end_at, HasEmpty, IsEmptyAt, IsFilledAt, Finds, IsReached};
@@ -9,15 +10,16 @@ use crate::linear_probing::{home_of, next_of, steps_between};
 use std::alloc::{AllocError, Global};
 use std::marker::Model;
 
-/// The bit that every mark has, so that 0 can mean an empty slot and a slot needs no other word. It
-/// is the highest, since only the lowest bits choose a home. Hashes that differ in it alone have
-/// the same mark, and the caller tells their items apart as it does those of equal hashes.
+/// The bit that is set in every mark, so that 0 can mean an empty bucket and a bucket needs no
+/// other word. It is the highest bit, since only the lowest bits choose a home. Hashes that differ
+/// in it alone have the same mark; the caller tells their items apart as it does those of equal
+/// hashes.
 pub(super) const FILLED: u64 = 0x8000_0000_0000_0000;
 
-/// A slot of a table: an item and its mark. The mark of an empty slot is 0.
-// An empty slot has some item too, which nothing reads.
+/// A bucket of a table: an item and its mark. The mark of an empty bucket is 0.
+// An empty bucket stores some item too, which is never read.
 #[derive(Clone, Copy)]
-pub(super) struct Slot<T> {
+pub(super) struct Bucket<T> {
     /// The hash of the item with its highest bit set, or 0.
     pub mark: u64,
     /// The item.
@@ -27,14 +29,14 @@ pub(super) struct Slot<T> {
 /// Where an item lies. It becomes stale with the next insertion, removal or growth.
 #[derive(Clone, Copy)]
 pub(crate) struct Cursor {
-    pub(super) slot: usize,
+    pub(super) bucket: usize,
 }
 
 impl Cursor {
     /// Returns a cursor at which no item lies.
     #[inline(always)]
     pub(crate) fn nowhere() -> Cursor {
-        Cursor { slot: usize::MAX }
+        Cursor { bucket: usize::MAX }
     }
 }
 
@@ -43,9 +45,9 @@ impl Model for Cursor {
 
     ghost Value = { ℕ };
 
-    ghost view = { λ a. a.slot };
+    ghost view = { λ a. a.bucket };
 
-    ghost inverse = { λ n. record { slot = n } };
+    ghost inverse = { λ n. record { bucket = n } };
 }
 
 /// One step of a walk along the items with a mark.
@@ -66,134 +68,135 @@ pub(super) fn mark_of(hash: u64) -> u64
     hash | FILLED
 }
 
-/// Returns the mark in a slot.
+/// Returns the mark in a bucket.
 #[inline(always)]
-pub(super) fn mark_in<T: Copy>(slots: &[Slot<T>], at: usize) -> u64
-    requires { at < length slots.now }
-    ensures { result ≡ mark_at (marks_of slots.now) at }
+pub(super) fn mark_in<T: Copy>(buckets: &[Bucket<T>], at: usize) -> u64
+    requires { at < length buckets.now }
+    ensures { result ≡ mark_at (marks_of buckets.now) at }
 {
-    slots[at].mark
+    buckets[at].mark
 }
 
-/// Returns the first item with a mark from a slot on, if there is one before the first empty slot.
+/// Searches for a mark, beginning at a bucket. Returns the first item with the mark, or `End` if an
+/// empty bucket comes before it.
 #[inline(always)]
-pub(super) fn find_mark<T: Copy>(slots: &[Slot<T>], mark: u64, from: usize) -> Step
-    requires within { from < length slots.now }
-    requires ends { HasEmpty (marks_of slots.now) }
+pub(super) fn find_mark<T: Copy>(buckets: &[Bucket<T>], mark: u64, from: usize) -> Step
+    requires within { from < length buckets.now }
+    requires ends { HasEmpty (marks_of buckets.now) }
     requires filled { mark ≢ 0 }
-    ensures { Finds (marks_of slots.now) mark from result }
+    ensures { Finds (marks_of buckets.now) mark from result }
 {
     let mut at = from;
     loop {
-        let found = slots[at].mark;
+        let found = buckets[at].mark;
         if found == mark {
-            return Step::Item(Cursor { slot: at });
+            return Step::Item(Cursor { bucket: at });
         }
         if found == 0 {
             return Step::End;
         }
-        at = next_of(slots.len(), at);
+        at = next_of(buckets.len(), at);
     }
 }
 
-/// Returns the first empty slot from a slot on.
-pub(super) fn find_empty<T: Copy>(slots: &[Slot<T>], from: usize) -> usize
-    requires within { from < length slots.now }
-    requires ends { HasEmpty (marks_of slots.now) }
-    ensures end { result ≡ end_at (marks_of slots.now) from }
-    ensures within { result < length slots.now }
+/// Searches for an empty bucket, beginning at a bucket. Returns the first one.
+pub(super) fn find_empty<T: Copy>(buckets: &[Bucket<T>], from: usize) -> usize
+    requires within { from < length buckets.now }
+    requires ends { HasEmpty (marks_of buckets.now) }
+    ensures end { result ≡ end_at (marks_of buckets.now) from }
+    ensures within { result < length buckets.now }
 {
     let mut at = from;
-    while slots[at].mark != 0 {
-        at = next_of(slots.len(), at);
+    while buckets[at].mark != 0 {
+        at = next_of(buckets.len(), at);
     }
     at
 }
 
-/// Moves the entry in a slot back to the hole, unless it would then lie before its home. Returns
-/// the slot that is the hole afterwards.
-fn close_hole<T: Copy>(slots: &mut [Slot<T>], hole: usize, at: usize) -> usize
-    requires hole { hole < length slots.old }
-    requires at { at < length slots.old }
-    requires gap { (start : ℕ) × IsGap (length slots.old) (marks_of slots.old) start hole at }
-    requires filled { IsFilledAt (marks_of slots.old) at }
-    ensures hole { result < length slots.old }
-    ensures gap { (start : ℕ) → IsGap (length slots.old) (marks_of slots.old) start hole at
-        → IsGap (length slots.old) (marks_of slots.new) start result
-        (next_in (length slots.old) at) }
-    ensures same { IsSame slots.old slots.new }
-    ensures apart { AreApart slots.old → AreApart slots.new }
-    ensures count { count slots.new ≡ count slots.old }
+/// Moves the entry in a bucket back to the hole, unless it would then lie before its home. Returns
+/// the bucket that is the hole afterwards.
+fn close_hole<T: Copy>(buckets: &mut [Bucket<T>], hole: usize, at: usize) -> usize
+    requires hole { hole < length buckets.old }
+    requires at { at < length buckets.old }
+    requires gap { (start : ℕ) × IsGap (length buckets.old) (marks_of buckets.old) start hole at }
+    requires filled { IsFilledAt (marks_of buckets.old) at }
+    ensures hole { result < length buckets.old }
+    ensures gap { (start : ℕ) → IsGap (length buckets.old) (marks_of buckets.old) start hole at
+        → IsGap (length buckets.old) (marks_of buckets.new) start result
+        (next_in (length buckets.old) at) }
+    ensures same { IsSame buckets.old buckets.new }
+    ensures apart { AreApart buckets.old → AreApart buckets.new }
+    ensures count { count buckets.new ≡ count buckets.old }
 {
-    let slot = slots[at];
-    let home = home_of(slots.len(), slot.mark);
-    if steps_between(slots.len(), home, at) < steps_between(slots.len(), hole, at) {
+    let bucket = buckets[at];
+    let home = home_of(buckets.len(), bucket.mark);
+    if steps_between(buckets.len(), home, at) < steps_between(buckets.len(), hole, at) {
         return hole;
     }
-    slots[hole] = slot;
-    slots[at] = Slot {
+    buckets[hole] = bucket;
+    buckets[at] = Bucket {
         mark: 0,
-        item: slot.item,
+        item: bucket.item,
     };
     at
 }
 
-/// Moves back the entries that follow a slot that was emptied.
-fn close_gap<T: Copy>(slots: &mut [Slot<T>], from: usize)
-    requires from { from < length slots.old }
-    requires gap { IsGap (length slots.old) (marks_of slots.old) from from
-        (next_in (length slots.old) from) }
-    ensures reached { IsReached (marks_of slots.new) }
-    ensures same { IsSame slots.old slots.new }
-    ensures apart { AreApart slots.old → AreApart slots.new }
-    ensures count { count slots.new ≡ count slots.old }
+/// Moves back the entries that follow a bucket that was emptied.
+fn close_gap<T: Copy>(buckets: &mut [Bucket<T>], from: usize)
+    requires from { from < length buckets.old }
+    requires gap { IsGap (length buckets.old) (marks_of buckets.old) from from
+        (next_in (length buckets.old) from) }
+    ensures reached { IsReached (marks_of buckets.new) }
+    ensures same { IsSame buckets.old buckets.new }
+    ensures apart { AreApart buckets.old → AreApart buckets.new }
+    ensures count { count buckets.new ≡ count buckets.old }
 {
     let mut hole = from;
-    let mut at = next_of(slots.len(), from);
-    while mark_in(slots, at) != 0 {
-        hole = close_hole(slots, hole, at);
-        at = next_of(slots.len(), at);
+    let mut at = next_of(buckets.len(), from);
+    while mark_in(buckets, at) != 0 {
+        hole = close_hole(buckets, hole, at);
+        at = next_of(buckets.len(), at);
     }
 }
 
-/// Empties a slot and moves back what follows it.
-pub(super) fn take_out<T: Copy>(slots: &mut [Slot<T>], at: usize) -> T
-    requires within { at < length slots.old }
-    requires filled { IsFilledAt (marks_of slots.old) at }
-    requires ends { HasEmpty (marks_of slots.old) }
-    requires reached { IsReached (marks_of slots.old) }
-    requires apart { AreApart slots.old }
-    ensures reached { IsReached (marks_of slots.new) }
-    ensures apart { AreApart slots.new }
-    ensures item { (s : _) → Holds slots.old at s → result ≡ s.item }
-    ensures removes { Removes slots.old slots.new result }
-    ensures count { count slots.new + 1 ≡ count slots.old }
+/// Empties a bucket, moves back the entries that follow it, and returns its item.
+pub(super) fn take_out<T: Copy>(buckets: &mut [Bucket<T>], at: usize) -> T
+    requires within { at < length buckets.old }
+    requires filled { IsFilledAt (marks_of buckets.old) at }
+    requires ends { HasEmpty (marks_of buckets.old) }
+    requires reached { IsReached (marks_of buckets.old) }
+    requires apart { AreApart buckets.old }
+    ensures reached { IsReached (marks_of buckets.new) }
+    ensures apart { AreApart buckets.new }
+    ensures item { (s : _) → Holds buckets.old at s → result ≡ s.item }
+    ensures removes { Removes buckets.old buckets.new result }
+    ensures count { count buckets.new + 1 ≡ count buckets.old }
 {
-    let item = slots[at].item;
-    slots[at] = Slot { mark: 0, item };
-    close_gap(slots, at);
+    let item = buckets[at].item;
+    buckets[at] = Bucket { mark: 0, item };
+    close_gap(buckets, at);
     item
 }
 
-/// Adds an entry, for which a slot is empty, where the search for its mark ends.
-pub(super) fn put<T: Copy>(slots: &mut [Slot<T>], mark: u64, item: T)
+/// Adds an entry in the empty bucket at which the search for its mark ends. There must be one.
+pub(super) fn put<T: Copy>(buckets: &mut [Bucket<T>], mark: u64, item: T)
     requires filled { mark ≢ 0 }
-    requires room { count slots.old < length slots.old }
-    requires reached { IsReached (marks_of slots.old) }
-    requires apart { AreApart slots.old }
-    requires absent { (s : _) → Has slots.old s → s.item ≢ item }
-    ensures reached { IsReached (marks_of slots.new) }
-    ensures apart { AreApart slots.new }
-    ensures adds { Adds slots.old slots.new (entry mark item) }
-    ensures count { count slots.new ≡ count slots.old + 1 }
+    requires room { count buckets.old < length buckets.old }
+    requires reached { IsReached (marks_of buckets.old) }
+    requires apart { AreApart buckets.old }
+    requires absent { (s : _) → Has buckets.old s → s.item ≢ item }
+    ensures reached { IsReached (marks_of buckets.new) }
+    ensures apart { AreApart buckets.new }
+    ensures adds { Adds buckets.old buckets.new (entry mark item) }
+    ensures count { count buckets.new ≡ count buckets.old + 1 }
 {
-    let home = home_of(slots.len(), mark);
-    let at = find_empty(slots, home);
-    slots[at] = Slot { mark, item };
+    let home = home_of(buckets.len(), mark);
+    let at = find_empty(buckets, home);
+    buckets[at] = Bucket { mark, item };
 }
 
-/// Copies each entry into slots that are empty.
-pub(super) fn copy_all<T: Copy>(from: &[Slot<T>], to: &mut [Slot<T>])
+/// Copies all entries to other buckets, all of which are empty.
+pub(super) fn copy_all<T: Copy>(from: &[Bucket<T>], to: &mut [Bucket<T>])
     requires apart { AreApart from.now }
     requires vacant { (k : ℕ) → IsEmptyAt (marks_of to.old) k }
     requires room { count from.now < length to.old }
@@ -202,28 +205,28 @@ pub(super) fn copy_all<T: Copy>(from: &[Slot<T>], to: &mut [Slot<T>])
     ensures same { IsSame from.now to.new }
     ensures count { count to.new ≡ count from.now }
 {
-    for slot in from {
-        if slot.mark != 0 {
-            put(to, slot.mark, slot.item);
+    for bucket in from {
+        if bucket.mark != 0 {
+            put(to, bucket.mark, bucket.item);
         }
     }
 }
 
-/// Makes so many slots that are empty.
-pub(super) fn empty_slots<T: Copy>(
+/// Makes `count` empty buckets, which hold the filler as their item.
+pub(super) fn empty_buckets<T: Copy>(
     alloc: Global,
     count: usize,
     filler: T,
-) -> Result<Vec<Slot<T>>, AllocError>
+) -> Result<Vec<Bucket<T>>, AllocError>
     ensures len { IfOk result (λ v. vec_len v ≡ count) }
     ensures vacant { IfOk result (λ v. (k : ℕ) → IsEmptyAt (marks_of v.items) k) }
 {
-    let mut slots = Vec::with_capacity(alloc, count)?;
+    let mut buckets = Vec::with_capacity(alloc, count)?;
     for _i in 0..count {
-        slots.push(Slot {
+        buckets.push(Bucket {
             mark: 0,
             item: filler,
         })?;
     }
-    Ok(slots)
+    Ok(buckets)
 }

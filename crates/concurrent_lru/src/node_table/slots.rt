@@ -50,7 +50,7 @@ impl<K: Drop, V: Drop> Slots<K, V> {
         }
     }
 
-    // Makes room for `more` more nodes.
+    // Reserves room for `more` nodes besides those present.
     pub(super) fn reserve(&mut self, more: usize) -> Result<(), AllocError>
         requires tied { IsTied self.old }
         requires listed { IsListed self.old }
@@ -230,7 +230,7 @@ impl<K: Drop, V: Drop> Slots<K, V> {
         self.pointers.len()
     }
 
-    // Returns whether there is a node in a slot, which may be any.
+    // Returns whether there is a node in a slot. Any number will do.
     pub(super) fn contains(&self, slot: usize) -> bool
         requires { IsTied self.now }
         ensures yes { IsTrue result → HasNode self.now slot }
@@ -239,7 +239,7 @@ impl<K: Drop, V: Drop> Slots<K, V> {
         self.pointers.contains(slot)
     }
 
-    // Returns a slot above those of all nodes.
+    // Returns a number above the slots of all nodes.
     pub(super) fn end_of_slots(&self) -> usize
         requires { IsTied self.now }
         ensures { (slot : ℕ) → result ≤ slot → cell_at (cells_of self.now) slot ≡ None }
@@ -260,8 +260,8 @@ impl<K: Drop, V: Drop> Slots<K, V> {
         self.pointers[slot].ptr
     }
 
-    // Returns a pointer to the node in a slot, as `look` does. If `near`, which may be any cursor,
-    // leads to the node, the slab is not read.
+    // Returns a pointer to the node in a slot, as `look` does. Any cursor will do: if it leads to
+    // the node, the slab is not read.
     #[inline(always)]
     pub(super) fn look_near(&mut self, slot: usize, near: Cursor) -> *mut Node<K, V>
         requires tied { IsTied self.old }
@@ -320,7 +320,7 @@ impl<K: Drop, V: Drop> Slots<K, V> {
         }
     }
 
-    // Frees every node, whatever links point to it.
+    // Frees every node, whether or not links lead to it.
     pub(super) fn end(mut self)
         requires { IsTied self }
     {

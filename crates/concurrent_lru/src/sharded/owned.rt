@@ -1,5 +1,5 @@
-//! Handles that borrow nothing: each keeps its cache alive with an `Arc` of its own, and has the
-//! route to its shard.
+//! Handles that borrow nothing: each has an `Arc` of the cache, which keeps it alive, and the route
+//! to its shard.
 ghost use Rattle.std.specs.Prelude.{◌≡◌, ◌≢◌, ◌<◌, ◌%◌, Some, None, Ok, Err, IfOk, IfErr, IfSome, slice_get, vec_len};
 ghost use Rattle.std.specs.Arc.{arc_value};
 ghost use Rattle.std.specs.Fn.{FnOnceReturnsAt, FnOnceTakesAt};

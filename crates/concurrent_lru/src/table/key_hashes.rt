@@ -7,8 +7,8 @@ use std::hash::{BuildHasher, Hash, Hasher};
 
 /// The hash of a key under a seed.
 ///
-/// A key is hashed once in a call, and its hash is passed on from function to function. Each takes
-/// the number only if the seed is its own, so no caller can pass the hash of another table.
+/// A key is hashed once in a call, and its hash is passed on from function to function. A table
+/// uses it only if it was made with the table's seed, so the hash of another table does no harm.
 #[derive(Clone, Copy)]
 pub struct KeyHash {
     pub(super) number: u64,

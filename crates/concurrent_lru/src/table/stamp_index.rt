@@ -1,6 +1,6 @@
 //! Lookup of nodes by stamp: with a map of places, or without one by visiting the nodes.
 //!
-//! Which of the two is chosen when a table is created.
+//! A table has one or the other, from its creation on.
 ghost use Rattle.std.specs.Prelude.{◌≡◌, ℕ, true, false, Some, None, OnOk, MatchOption, cond, nat_eq};
 ghost use Rattle.concurrent_lru.specs.NodeTable.{HasStampAt, IsNewStamp};
 ghost use Rattle.concurrent_lru.specs.StampIndex.{keeps_map, mapped_place, HasRoomFor};
@@ -29,7 +29,7 @@ impl Drop for StampIndex {
 }
 
 impl StampIndex {
-    // Reserves room for `more` more inserts.
+    // Reserves room for `more` inserts.
     pub(super) fn reserve(&mut self, more: usize) -> Result<(), AllocError>
         ensures room { OnOk result (HasRoomFor self.new more) }
         ensures keeps { keeps_map self.new ≡ keeps_map self.old }
@@ -41,7 +41,7 @@ impl StampIndex {
         }
     }
 
-    // Records the place of a new node, for which there is room.
+    // Records the place of a new node. There must be room for it.
     pub(super) fn insert(&mut self, stamp: u64, place: Place)
         requires { HasRoomFor self.old 1 }
         ensures keeps { keeps_map self.new ≡ keeps_map self.old }

@@ -16,7 +16,7 @@ impl<K: Hash + Eq + Clone, V: Drop> Table<K, V> {
         self.nodes.end_of_places()
     }
 
-    /// Returns the node at a place, which may be any place, or `None` if there is none.
+    /// Returns the node at a place, or `None` if there is none. Any place will do.
     pub fn node_at(&self, place: Place) -> Option<&Node<K, V>>
         ensures { MatchOption result (ready_in self.now place ≡ None)
             (λ node. ready_in self.now place ≡ ready_from_node (entry_of node.now)) }

@@ -1,8 +1,8 @@
-//! The kit's fast hasher, fed at most eight bytes at a time.
+//! A `FoldHasher` that is fed at most eight bytes at a time.
 //!
-//! At a longer write it multiplies two words of the key with each other, so that some keys have one
-//! hash whatever it was fed before. At a shorter one it multiplies by a number that is never 0, and
-//! without the seed nobody can tell which keys have hashes in common.
+//! At a longer write, a `FoldHasher` multiplies two words of the key with each other, so that some
+//! keys have one hash whatever it was fed before. At a shorter one it multiplies by a number that
+//! is never 0, and without the seed nobody can tell which keys have hashes in common.
 
 use std::hash::{FoldHasher, Hasher};
 

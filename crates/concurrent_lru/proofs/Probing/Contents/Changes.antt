@@ -4,109 +4,109 @@ use Rattle.std.proofs.lemmas.Bool.{cases_eq}
 use Rattle.std.proofs.lemmas.List.{length-set}
 use Rattle.concurrent_lru.specs.Probing.Probes.{marks_of, IsEmptyAt}
 use Rattle.concurrent_lru.specs.Probing.Entries.{Holds, Has, AreApart, IsSame, Adds, Removes, count}
-use Rattle.concurrent_lru.specs.declared.node_table.probes.Slot.{Slot}
+use Rattle.concurrent_lru.specs.declared.node_table.probes.Bucket.{Bucket}
 use Rattle.concurrent_lru.proofs.Probing.Contents.Slots.{holds_filled, holds_one, holds_within, holds_set, holds_other, held_other, held_same, not_emptied, count_filled, count_emptied}
 
 module _ {T : Type 0} where
-  pub same_refl : (slots : List (Slot T)) → IsSame slots slots
-  same_refl slots = record { kept = λ s h. h; from = λ s h. h }
+  pub same_refl : (buckets : List (Bucket T)) → IsSame buckets buckets
+  same_refl buckets = record { kept = λ s h. h; from = λ s h. h }
 
-  pub same_trans : (a b c : List (Slot T)) → IsSame a b → IsSame b c → IsSame a c
+  pub same_trans : (a b c : List (Bucket T)) → IsSame a b → IsSame b c → IsSame a c
   same_trans a b c h k = record { kept = λ s x. k.kept s (h.kept s x); from = λ s x. h.from s (k.from s x) }
 
-  pub removes_same : (a b c : List (Slot T)) (item : T) → Removes a b item → IsSame b c → Removes a c item
+  pub removes_same : (a b c : List (Bucket T)) (item : T) → Removes a b item → IsSame b c → Removes a c item
   removes_same a b c item h k = record {
     gone = λ r x. h.gone r (k.from r x);
     kept = λ r x ne. k.kept r (h.kept r x ne);
     from = λ r x. h.from r (k.from r x);
   }
 
-  module _ (slots : List (Slot T)) (k : ℕ) (s : Slot T) (lt : k < length slots) where
-    -- an empty slot is filled
-    module _ (none : IsEmptyAt (marks_of slots) k) (filled : s.mark ≢ 0) where
-      not_there : (j : ℕ) (r : Slot T) → Holds slots j r → j ≢ k
-      not_there j r h e = holds_filled slots j r h (subst (IsEmptyAt (marks_of slots)) (sym e) none)
+  module _ (buckets : List (Bucket T)) (k : ℕ) (s : Bucket T) (lt : k < length buckets) where
+    -- an empty bucket is filled
+    module _ (none : IsEmptyAt (marks_of buckets) k) (filled : s.mark ≢ 0) where
+      not_there : (j : ℕ) (r : Bucket T) → Holds buckets j r → j ≢ k
+      not_there j r h e = holds_filled buckets j r h (subst (IsEmptyAt (marks_of buckets)) (sym e) none)
 
-      pub adds : Adds slots (set slots k s) s
+      pub adds : Adds buckets (set buckets k s) s
       adds = record {
-        here = (k, holds_set slots k s lt filled);
-        kept = λ r h. (h.0, holds_other slots k h.0 s r (not_there h.0 r h.1) h.1);
+        here = (k, holds_set buckets k s lt filled);
+        kept = λ r h. (h.0, holds_other buckets k h.0 s r (not_there h.0 r h.1) h.1);
         from = λ r h. elim (cases_eq h.0 k) [
-          | inl e ↦ inl (held_same slots k s r lt (subst (λ j. Holds (set slots k s) j r) e h.1))
-          | inr ne ↦ inr (h.0, held_other slots k h.0 s r ne h.1)
+          | inl e ↦ inl (held_same buckets k s r lt (subst (λ j. Holds (set buckets k s) j r) e h.1))
+          | inr ne ↦ inr (h.0, held_other buckets k h.0 s r ne h.1)
         ];
       }
 
-      module _ (apart : AreApart slots) (absent : (r : Slot T) → Has slots r → r.item ≢ s.item) where
+      module _ (apart : AreApart buckets) (absent : (r : Bucket T) → Has buckets r → r.item ≢ s.item) where
         -- an item that was there is not the one that is put in
-        not_both : (j : ℕ) (r t : Slot T) → j ≢ k → Holds (set slots k s) j r → Holds (set slots k s) k t → r.item ≢ t.item
+        not_both : (j : ℕ) (r t : Bucket T) → j ≢ k → Holds (set buckets k s) j r → Holds (set buckets k s) k t → r.item ≢ t.item
         not_both j r t ne h i same =
-            absent r (j, held_other slots k j s r ne h) (same ∙ ap (λ (x : Slot T). x.item) (held_same slots k s t lt i))
+            absent r (j, held_other buckets k j s r ne h) (same ∙ ap (λ (x : Bucket T). x.item) (held_same buckets k s t lt i))
 
-        pub adds_apart : AreApart (set slots k s)
+        pub adds_apart : AreApart (set buckets k s)
         adds_apart j l r t h i same = elim (cases_eq j k) [
           | inl e ↦ elim (cases_eq l k) [
             | inl f ↦ e ∙ sym f
-            | inr ne ↦ absurd (not_both l t r ne i (subst (λ x. Holds (set slots k s) x r) e h) (sym same))
+            | inr ne ↦ absurd (not_both l t r ne i (subst (λ x. Holds (set buckets k s) x r) e h) (sym same))
           ]
           | inr ne ↦ elim (cases_eq l k) [
-            | inl f ↦ absurd (not_both j r t ne h (subst (λ x. Holds (set slots k s) x t) f i) same)
-            | inr other ↦ apart j l r t (held_other slots k j s r ne h) (held_other slots k l s t other i) same
+            | inl f ↦ absurd (not_both j r t ne h (subst (λ x. Holds (set buckets k s) x t) f i) same)
+            | inr other ↦ apart j l r t (held_other buckets k j s r ne h) (held_other buckets k l s t other i) same
           ]
         ]
 
-    -- a filled slot is emptied
-    module _ (x : Slot T) (here : Holds slots k x) (none : s.mark ≡ 0) (apart : AreApart slots) where
-      left : (j : ℕ) (r : Slot T) → Holds (set slots k s) j r → j ≢ k
-      left j r h e = not_emptied slots k s r lt none (subst (λ t. Holds (set slots k s) t r) e h)
+    -- a filled bucket is emptied
+    module _ (x : Bucket T) (here : Holds buckets k x) (none : s.mark ≡ 0) (apart : AreApart buckets) where
+      left : (j : ℕ) (r : Bucket T) → Holds (set buckets k s) j r → j ≢ k
+      left j r h e = not_emptied buckets k s r lt none (subst (λ t. Holds (set buckets k s) t r) e h)
 
-      pub removes : Removes slots (set slots k s) x.item
+      pub removes : Removes buckets (set buckets k s) x.item
       removes = record {
-        gone = λ r h same. left h.0 r h.1 (apart h.0 k r x (held_other slots k h.0 s r (left h.0 r h.1) h.1) here same);
-        kept = λ r h ne. (h.0, holds_other slots k h.0 s r (λ e. ne (ap (λ (t : Slot T). t.item) (holds_one slots k r x (subst (λ t. Holds slots t r) e h.1) here))) h.1);
-        from = λ r h. (h.0, held_other slots k h.0 s r (left h.0 r h.1) h.1);
+        gone = λ r h same. left h.0 r h.1 (apart h.0 k r x (held_other buckets k h.0 s r (left h.0 r h.1) h.1) here same);
+        kept = λ r h ne. (h.0, holds_other buckets k h.0 s r (λ e. ne (ap (λ (t : Bucket T). t.item) (holds_one buckets k r x (subst (λ t. Holds buckets t r) e h.1) here))) h.1);
+        from = λ r h. (h.0, held_other buckets k h.0 s r (left h.0 r h.1) h.1);
       }
 
-      pub removes_apart : AreApart (set slots k s)
-      removes_apart j l r t h i same = apart j l r t (held_other slots k j s r (left j r h) h) (held_other slots k l s t (left l t i) i) same
+      pub removes_apart : AreApart (set buckets k s)
+      removes_apart j l r t h i same = apart j l r t (held_other buckets k j s r (left j r h) h) (held_other buckets k l s t (left l t i) i) same
 
-  -- an entry is moved from one slot into another, which was empty
-  module _ (slots : List (Slot T)) (to from : ℕ) (s x : Slot T) (lt : to < length slots) (none : IsEmptyAt (marks_of slots) to) (here : Holds slots from s) (blank : x.mark ≡ 0) where
-    abbrev filled : List (Slot T)
-    filled = set slots to s
+  -- an entry is moved from one bucket into another, which was empty
+  module _ (buckets : List (Bucket T)) (to from : ℕ) (s x : Bucket T) (lt : to < length buckets) (none : IsEmptyAt (marks_of buckets) to) (here : Holds buckets from s) (blank : x.mark ≡ 0) where
+    abbrev filled : List (Bucket T)
+    filled = set buckets to s
 
-    abbrev moved : List (Slot T)
+    abbrev moved : List (Bucket T)
     moved = set filled from x
 
     ends_apart : from ≢ to
-    ends_apart e = holds_filled slots from s here (subst (IsEmptyAt (marks_of slots)) (sym e) none)
+    ends_apart e = holds_filled buckets from s here (subst (IsEmptyAt (marks_of buckets)) (sym e) none)
 
     in_filled : from < length filled
-    in_filled = let long : length filled ≡ length slots = length-set slots to s in let w : from < length slots = holds_within slots from s here in omega arith
+    in_filled = let long : length filled ≡ length buckets = length-set buckets to s in let w : from < length buckets = holds_within buckets from s here in omega arith
 
-    not_left : (k : ℕ) (r : Slot T) → Holds moved k r → k ≢ from
+    not_left : (k : ℕ) (r : Bucket T) → Holds moved k r → k ≢ from
     not_left k r h e = not_emptied filled from x r in_filled blank (subst (λ t. Holds moved t r) e h)
 
     -- where what is held now was before
-    before : (k : ℕ) (r : Slot T) → Holds moved k r → (j : ℕ) × Holds slots j r × ((k ≡ to) × (j ≡ from) ⊎ (j ≡ k))
+    before : (k : ℕ) (r : Bucket T) → Holds moved k r → (j : ℕ) × Holds buckets j r × ((k ≡ to) × (j ≡ from) ⊎ (j ≡ k))
     before k r h = elim (cases_eq k to) [
-      | inl e ↦ (from, subst (λ t. Holds slots from t) (sym (held_same slots to s r lt (subst (λ t. Holds filled t r) e (held_other filled from k x r (not_left k r h) h)))) here, inl (e, refl))
-      | inr ne ↦ (k, held_other slots to k s r ne (held_other filled from k x r (not_left k r h) h), inr refl)
+      | inl e ↦ (from, subst (λ t. Holds buckets from t) (sym (held_same buckets to s r lt (subst (λ t. Holds filled t r) e (held_other filled from k x r (not_left k r h) h)))) here, inl (e, refl))
+      | inr ne ↦ (k, held_other buckets to k s r ne (held_other filled from k x r (not_left k r h) h), inr refl)
     ]
 
-    after : (k : ℕ) (r : Slot T) → Holds slots k r → Has moved r
+    after : (k : ℕ) (r : Bucket T) → Holds buckets k r → Has moved r
     after k r h = elim (cases_eq k from) [
-      | inl e ↦ (to, subst (λ t. Holds moved to t) (holds_one slots from s r here (subst (λ t. Holds slots t r) e h)) (holds_other filled from to x s (λ is. ends_apart (sym is)) (holds_set slots to s lt here.filled)))
-      | inr ne ↦ (k, holds_other filled from k x r ne (holds_other slots to k s r (λ e. holds_filled slots k r h (subst (IsEmptyAt (marks_of slots)) (sym e) none)) h))
+      | inl e ↦ (to, subst (λ t. Holds moved to t) (holds_one buckets from s r here (subst (λ t. Holds buckets t r) e h)) (holds_other filled from to x s (λ is. ends_apart (sym is)) (holds_set buckets to s lt here.filled)))
+      | inr ne ↦ (k, holds_other filled from k x r ne (holds_other buckets to k s r (λ e. holds_filled buckets k r h (subst (IsEmptyAt (marks_of buckets)) (sym e) none)) h))
     ]
 
-    pub moves : IsSame slots moved
+    pub moves : IsSame buckets moved
     moves = record {
       kept = λ r h. after h.0 r h.1;
       from = λ r h. ((before h.0 r h.1).0, (before h.0 r h.1).1);
     }
 
-    pub moves_apart : AreApart slots → AreApart moved
+    pub moves_apart : AreApart buckets → AreApart moved
     moves_apart apart k l r t h i same =
         let a = before k r h in
         let b = before l t i in
@@ -122,8 +122,8 @@ module _ {T : Type 0} where
           ]
         ]
 
-    pub moves_count : count moved ≡ count slots
+    pub moves_count : count moved ≡ count buckets
     moves_count =
-        let one : count filled ≡ count slots + 1 = count_filled slots to s lt none here.filled in
-        let two : count moved + 1 ≡ count filled = count_emptied filled from x in_filled (holds_filled filled from s (holds_other slots to from s s ends_apart here)) blank in
+        let one : count filled ≡ count buckets + 1 = count_filled buckets to s lt none here.filled in
+        let two : count moved + 1 ≡ count filled = count_emptied filled from x in_filled (holds_filled filled from s (holds_other buckets to from s s ends_apart here)) blank in
         omega arith

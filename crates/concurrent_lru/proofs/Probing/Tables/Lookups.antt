@@ -2,7 +2,7 @@
 use Rattle.std.proofs.Common.{◌≡◌, ◌≢◌, ℕ, zero, suc, ◌<◌, List, ◌∷◌, length, refl, sym, ap, ◌∙◌, subst, arith, Contains}
 use Rattle.concurrent_lru.specs.Probing.Probes.{marks_of, mark_at}
 use Rattle.concurrent_lru.specs.Probing.OpenTable.{IsFilled, HasMark, walk}
-use Rattle.concurrent_lru.specs.declared.node_table.probes.Slot.{Slot}
+use Rattle.concurrent_lru.specs.declared.node_table.probes.Bucket.{Bucket}
 use Rattle.concurrent_lru.specs.declared.node_table.probes.Step.{Step}
 use Rattle.concurrent_lru.specs.declared.node_table.probes.Step.TheVariants.{Item, End}
 
@@ -10,7 +10,7 @@ contains_rest : (p q : ℕ) (ps : List ℕ) → q ≢ p → Contains (p ∷ ps) 
 contains_rest p q ps ne (zero, within, is) = absurd (ne (sym is))
 contains_rest p q ps ne (suc k, within, is) = (k, omega arith, is)
 
-module _ {T : Type 0} (v : List (Slot T)) (mark : ℕ) (filled : mark ≢ 0) where
+module _ {T : Type 0} (v : List (Bucket T)) (mark : ℕ) (filled : mark ≢ 0) where
   pub item_mark : (at : Step) (cursor : ℕ) → at ≡ Item cursor → HasMark v mark at → mark_at (marks_of v) cursor ≡ mark
   item_mark at cursor is h = subst (HasMark v mark) is h
 

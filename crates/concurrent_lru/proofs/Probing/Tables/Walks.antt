@@ -5,7 +5,7 @@ use Rattle.std.proofs.lemmas.Bool.{cases_eq, eq-eqb, ne_eqb}
 use Rattle.concurrent_lru.specs.Probing.Cycle.{next_of, steps, home_of}
 use Rattle.concurrent_lru.specs.Probing.Probes.{marks_of, mark_at, IsFilledAt, HasEmpty, run_at, walk_at, Finds}
 use Rattle.concurrent_lru.specs.Probing.OpenTable.{IsTable, HasMark, walk}
-use Rattle.concurrent_lru.specs.declared.node_table.probes.Slot.{Slot}
+use Rattle.concurrent_lru.specs.declared.node_table.probes.Bucket.{Bucket}
 use Rattle.concurrent_lru.specs.declared.node_table.probes.Step.{Step}
 use Rattle.concurrent_lru.specs.declared.node_table.probes.Step.TheVariants.{Item, End}
 use Rattle.concurrent_lru.proofs.Probing.Circle.{home_within}
@@ -36,24 +36,24 @@ contains k (x ∷ xs) h = elim (cases_eq k x) [
   | inr ne ↦ let there = contains k xs (in_rest k x xs ne h) in (suc there.0, omega (arith, there.1), there.2)
 ]
 
-module _ {T : Type 0} (v : List (Slot T)) (len : ℕ) (t : IsTable v len) where
+module _ {T : Type 0} (v : List (Bucket T)) (len : ℕ) (t : IsTable v len) where
   abbrev ms : List ℕ
   ms = marks_of v
 
-  -- a table that has slots has an empty one
+  -- a table that has buckets has an empty one
   pub has_empty : 0 < length v → HasEmpty ms
   has_empty some = some_empty v (let counted = t.counted in let room = t.room in omega arith)
 
   long : length ms ≡ length v
   long = length-marks v
 
-  slots_from : (k : ℕ) → IsFilledAt ms k → 0 < length v
-  slots_from k full = let lt : k < length ms = filled_within ms k full in let l = long in omega arith
+  buckets_from : (k : ℕ) → IsFilledAt ms k → 0 < length v
+  buckets_from k full = let lt : k < length ms = filled_within ms k full in let l = long in omega arith
 
   pub filled_in : (k : ℕ) → IsFilledAt ms k → k < length v
   filled_in k full = let lt : k < length ms = filled_within ms k full in let l = long in omega arith
 
-  -- the slots from the home of a mark to its slot are filled
+  -- the buckets from the home of a mark to its bucket are filled
   path : (k m : ℕ) → IsFilledAt ms k → m < length ms → steps (length ms) (home_of (length ms) (mark_at ms k)) m ≤ steps (length ms) (home_of (length ms) (mark_at ms k)) k → IsFilledAt ms m
   path = t.reached
 
@@ -64,7 +64,7 @@ module _ {T : Type 0} (v : List (Slot T)) (len : ℕ) (t : IsTable v len) where
   on_walk : (mark k : ℕ) → mark ≢ 0 → mark_at ms k ≡ mark → list_any (eqb k) (walk_at ms mark (home_of (length v) mark)) ≡ true
   on_walk mark k filled is =
       let full : IsFilledAt ms k = λ none. filled (sym is ∙ none) in
-      let some : HasEmpty ms = has_empty (slots_from k full) in
+      let some : HasEmpty ms = has_empty (buckets_from k full) in
       let home : ℕ = home_of (length ms) (mark_at ms k) in
       let there : list_any (eqb k) (run_at ms home) ≡ true = member_along ms some.0 some.1 some.2 (steps (length ms) home k) home k (home_in k full) (filled_within ms k full) refl (λ m in_m near. path k m full in_m near) in
       in_filter (λ j. eqb (mark_at ms j) mark) k (run_at ms (home_of (length v) mark)) (eq-eqb (mark_at ms k) mark is)
@@ -81,10 +81,10 @@ module _ {T : Type 0} (v : List (Slot T)) (len : ℕ) (t : IsTable v len) where
   first_all mark at End filled home f k is =
       contains k [] (subst (λ l. list_any (eqb k) l ≡ true) (ap (walk_at ms mark) (sym home) ∙ f) (on_walk mark k filled is))
 
-  -- ---- a search from the slot after an item
+  -- ---- a search from the bucket after an item
   module _ (cursor next : ℕ) (full : IsFilledAt ms cursor) (to : next ≡ next_of (length v) cursor) where
     some : HasEmpty ms
-    some = has_empty (slots_from cursor full)
+    some = has_empty (buckets_from cursor full)
 
     in_ms : cursor < length ms
     in_ms = filled_within ms cursor full
@@ -96,8 +96,8 @@ module _ {T : Type 0} (v : List (Slot T)) (len : ℕ) (t : IsTable v len) where
     next_rest (Item j) f = walk_here ms (mark_at ms cursor) cursor some in_ms full refl ∙ ap (λ l. cursor ∷ l) (ap (walk_at ms (mark_at ms cursor)) next_is ∙ f.1 ∙ ap (λ m. walk_at ms m j) (sym f.0))
     next_rest End f = walk_here ms (mark_at ms cursor) cursor some in_ms full refl ∙ ap (λ l. cursor ∷ l) (ap (walk_at ms (mark_at ms cursor)) next_is ∙ f)
 
--- a table with no slots
-pub none_filled : {T : Type 0} (v : List (Slot T)) (k mark : ℕ) → length v ≡ 0 → mark_at (marks_of v) k ≡ mark → mark ≢ 0 → ⊥
+-- a table with no buckets
+pub none_filled : {T : Type 0} (v : List (Bucket T)) (k mark : ℕ) → length v ≡ 0 → mark_at (marks_of v) k ≡ mark → mark ≢ 0 → ⊥
 none_filled v k mark none is filled =
     let lt : k < length (marks_of v) = filled_within (marks_of v) k (λ e. filled (sym is ∙ e)) in
     let long : length (marks_of v) ≡ length v = length-marks v in

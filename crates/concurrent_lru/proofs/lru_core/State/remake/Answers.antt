@@ -30,11 +30,11 @@ fits_beside sum total charge low same small = omega (arith, low, same, small)
 too_large : (sum total charge : ℕ) → sum < 2 ^ 64 → total ≡ sum → 18446744073709551615 - total < charge → 2 ^ 64 ≤ sum + charge
 too_large sum total charge low same large = omega (arith, low, same, large)
 
-fits_in_place : (sum total own charge : ℕ) → sum < 2 ^ 64 → total ≡ sum → own ≤ sum → charge ≤ 18446744073709551615 - (total - own) → sum + charge < 2 ^ 64 + own
-fits_in_place sum total own charge low same counted small = omega (arith, low, same, counted, small)
+fits_in_place : (sum total old_charge charge : ℕ) → sum < 2 ^ 64 → total ≡ sum → old_charge ≤ sum → charge ≤ 18446744073709551615 - (total - old_charge) → sum + charge < 2 ^ 64 + old_charge
+fits_in_place sum total old_charge charge low same counted small = omega (arith, low, same, counted, small)
 
-too_large_in_place : (sum total own charge : ℕ) → sum < 2 ^ 64 → total ≡ sum → own ≤ sum → 18446744073709551615 - (total - own) < charge → 2 ^ 64 + own ≤ sum + charge
-too_large_in_place sum total own charge low same counted large = omega (arith, low, same, counted, large)
+too_large_in_place : (sum total old_charge charge : ℕ) → sum < 2 ^ 64 → total ≡ sum → old_charge ≤ sum → 18446744073709551615 - (total - old_charge) < charge → 2 ^ 64 + old_charge ≤ sum + charge
+too_large_in_place sum total old_charge charge low same counted large = omega (arith, low, same, counted, large)
 
 pub make-requires-clause-absent : goal.make-requires-clause-absent
 make-requires-clause-absent g c = subst (λ old. IsAbsent g.K.PartialEq.eq old c.args.key.now) (ap (λ x. x.cache) c.self.view_is) c.in_default.ensures.found
@@ -87,7 +87,7 @@ returns-in_err-new-clause-step g c =
     let equal = key_is c.in-Some.ensures.node.entry c.self.invariant.lawful c.args.key.now c.in-Some.ensures.found in
     let found = found_is c.in-Some.ensures.node.entry c.self.invariant.lawful c.args.key.now c.in-Some.ensures.found some in
     let answer = c.from_residual-in_err-new in
-    let lacks = steps.lacks_held g.K.PartialEq.eq g.met.K.Eq.laws c.self.inside.capacity c.self.inside.most_pins c.self.inside.next c.in-Some.ensures.node.entry c.self.invariant.lawful c.args.key.now c.args.charge equal some found (fits_beside (charges_of c.self.inside.table) c.total.result c.args.charge c.self.invariant.lawful.sum_fits c.total.ensures c.if-charge-total.false) (below_end c.self.inside.next (omega arith) c.if-stamp.false) in
+    let lacks = steps.lacks_memory_held g.K.PartialEq.eq g.met.K.Eq.laws c.self.inside.capacity c.self.inside.most_pins c.self.inside.next c.in-Some.ensures.node.entry c.self.invariant.lawful c.args.key.now c.args.charge equal some found (fits_beside (charges_of c.self.inside.table) c.total.result c.args.charge c.self.invariant.lawful.sum_fits c.total.ensures c.if-charge-total.false) (below_end c.self.inside.next (omega arith) c.if-stamp.false) in
     subst (λ t. Remakes g.K.PartialEq.eq c.args.self.now.cache c.args.key.now c.args.charge answer.result (cache_with c.self.inside.capacity c.self.inside.most_pins c.self.inside.next t)) (sym c.in_err-new.ensures.err)
     (subst (λ old. Remakes g.K.PartialEq.eq old c.args.key.now c.args.charge answer.result (cache_with c.self.inside.capacity c.self.inside.most_pins c.self.inside.next c.self.inside.table)) (ap (λ x. x.cache) c.self.view_is)
     (remade_refused g.K.PartialEq.eq (cache_with c.self.inside.capacity c.self.inside.most_pins c.self.inside.next c.self.inside.table) (cache_with c.self.inside.capacity c.self.inside.most_pins c.self.inside.next c.self.inside.table) c.args.key.now c.args.charge answer.result _ answer.ensures.1 (subst (λ e. RefusesToReplace g.K.PartialEq.eq (cache_with c.self.inside.capacity c.self.inside.most_pins c.self.inside.next c.self.inside.table) c.args.key.now c.args.charge e (cache_with c.self.inside.capacity c.self.inside.most_pins c.self.inside.next c.self.inside.table)) (sym c.in_err-new.ensures.refusal) lacks)))
@@ -147,7 +147,7 @@ returns-in_err-old-clause-step g c =
     let none = no_pins (entry_of c.in-Some.found.node.now).pins c.if-pins-gt0.false in
     let equal = key_is c.in-Some.ensures.node.entry c.self.invariant.lawful c.args.key.now c.in-Some.ensures.found in
     let answer = c.from_residual-in_err-old in
-    let lacks = steps.lacks_idle g.K.PartialEq.eq g.met.K.Eq.laws c.self.inside.capacity c.self.inside.most_pins c.self.inside.next c.in-Some.ensures.node.entry c.self.invariant.lawful c.args.key.now c.args.charge equal none (fits_in_place (charges_of c.self.inside.table) c.total-2.result (entry_of c.in-Some.found.node.now).charge c.args.charge c.self.invariant.lawful.sum_fits c.total-2.ensures (steps.counted g.K.PartialEq.eq g.met.K.Eq.laws c.self.inside.capacity c.self.inside.most_pins c.self.inside.next c.in-Some.ensures.node.entry c.self.invariant.lawful c.args.key.now c.args.charge equal none) c.if-charge-rest.false) (below_end c.self.inside.next (omega arith) c.if-stamp-2.false) in
+    let lacks = steps.lacks_memory_idle g.K.PartialEq.eq g.met.K.Eq.laws c.self.inside.capacity c.self.inside.most_pins c.self.inside.next c.in-Some.ensures.node.entry c.self.invariant.lawful c.args.key.now c.args.charge equal none (fits_in_place (charges_of c.self.inside.table) c.total-2.result (entry_of c.in-Some.found.node.now).charge c.args.charge c.self.invariant.lawful.sum_fits c.total-2.ensures (steps.counted g.K.PartialEq.eq g.met.K.Eq.laws c.self.inside.capacity c.self.inside.most_pins c.self.inside.next c.in-Some.ensures.node.entry c.self.invariant.lawful c.args.key.now c.args.charge equal none) c.if-charge-rest.false) (below_end c.self.inside.next (omega arith) c.if-stamp-2.false) in
     subst (λ t. Remakes g.K.PartialEq.eq c.args.self.now.cache c.args.key.now c.args.charge answer.result (cache_with c.self.inside.capacity c.self.inside.most_pins c.self.inside.next t)) (sym c.in_err-old.ensures.err)
     (subst (λ old. Remakes g.K.PartialEq.eq old c.args.key.now c.args.charge answer.result (cache_with c.self.inside.capacity c.self.inside.most_pins c.self.inside.next c.self.inside.table)) (ap (λ x. x.cache) c.self.view_is)
     (remade_refused g.K.PartialEq.eq (cache_with c.self.inside.capacity c.self.inside.most_pins c.self.inside.next c.self.inside.table) (cache_with c.self.inside.capacity c.self.inside.most_pins c.self.inside.next c.self.inside.table) c.args.key.now c.args.charge answer.result _ answer.ensures.1 (subst (λ e. RefusesToReplace g.K.PartialEq.eq (cache_with c.self.inside.capacity c.self.inside.most_pins c.self.inside.next c.self.inside.table) c.args.key.now c.args.charge e (cache_with c.self.inside.capacity c.self.inside.most_pins c.self.inside.next c.self.inside.table)) (sym c.in_err-old.ensures.refusal) lacks)))

@@ -23,10 +23,10 @@ returns-in_default-clause-step g c =
     ) in
     (subst (λ k. HasNoneReadyAt g.K.PartialEq.eq k c.args.spot.now.stamp) (ap (λ x. x.cache) c.self.view_is) none, refl)
 
-pub returns-then-holders-self-clause-step : goal.returns-then-holders-self-clause-step
-returns-then-holders-self-clause-step g c = (
+pub returns-then-pins-self-clause-step : goal.returns-then-pins-self-clause-step
+returns-then-pins-self-clause-step g c = (
   subst (λ old. Overflows g.K.PartialEq.eq old (ask.repin c.args.spot.now.stamp)) (ap (λ x. x.cache) c.self.view_is)
-      (repin_overflows c.in-Some.ensures.node.entry g.K.PartialEq.eq c.self.inside.capacity c.self.inside.most_pins c.self.inside.next c.args.spot.now.stamp c.in-Ready.field-0 c.in-Some.ensures.found c.self.invariant.pins_above c.if-holders-self.true (ap phase_of c.in-Ready.is)),
+      (repin_overflows c.in-Some.ensures.node.entry g.K.PartialEq.eq c.self.inside.capacity c.self.inside.most_pins c.self.inside.next c.args.spot.now.stamp c.in-Ready.field-0 c.in-Some.ensures.found c.self.invariant.pins_above c.if-pins-self.true (ap phase_of c.in-Ready.is)),
   refl,
 )
 
@@ -38,13 +38,13 @@ returns-in_err-stored-clause-step g c =
     (repinned_memory g.M.Sharing.seen g.K.PartialEq.eq c.args.self.now.cache ask c.from_residual.result _ c.from_residual.ensures.1 c.in_err-stored.ensures.refusal
     (subst (λ old. HasRoomAt g.K.PartialEq.eq old c.args.spot.now.stamp) (ap (λ x. x.cache) c.self.view_is)
     (has_room_at c.in-Some.ensures.node.entry g.K.PartialEq.eq c.self.inside.capacity c.self.inside.most_pins c.self.inside.next c.args.spot.now.stamp c.in-Ready.field-0 c.in-Some.ensures.found
-    (has_room c.in-Some.ensures.node.entry c.self.invariant.lawful c.self.invariant.pins_above c.if-holders-self.false) (ap phase_of c.in-Ready.is)))))
+    (has_room c.in-Some.ensures.node.entry c.self.invariant.lawful c.self.invariant.pins_above c.if-pins-self.false) (ap phase_of c.in-Ready.is)))))
 
 pinned : (g : _) (c : After-into_share g) → Repins g.K.PartialEq.eq (cache_with c.self.inside.capacity c.self.inside.most_pins c.self.inside.next c.self.inside.table) c.args.spot.now.stamp c.in_ok-stored.stored [] (cache_with c.self.inside.capacity c.self.inside.most_pins c.self.inside.next c.pin.new.self)
 pinned g c =
     let here = c.in-Some.ensures.node.entry in
     repins g.K.PartialEq.eq c.self.inside.capacity c.self.inside.most_pins c.self.inside.next here g.met.K.Eq.laws c.pin.new.self c.args.spot.now.stamp c.in_ok-stored.stored c.in-Some.ensures.found
-    (has_room here c.self.invariant.lawful c.self.invariant.pins_above c.if-holders-self.false)
+    (has_room here c.self.invariant.lawful c.self.invariant.pins_above c.if-pins-self.false)
     (value_here here c.in_ok-stored.stored c.in-Some.ensures.node.value c.in_ok-stored.ensures.value) c.in_ok-stored.ensures.revived c.in_ok-stored.ensures.held
 
 pub invariant_of-self-2 : goal.invariant_of-self-2

@@ -16,41 +16,41 @@ use Rattle.concurrent_lru.proofs.node_table.Nodes.pin.Goals.{After-set_pins}
 no_pins : (n : ℕ) → n ≤ 0 → n ≡ 0
 no_pins n few = omega arith
 
-pub look_near-own-requires-clause-present : goal.look_near-own-requires-clause-present
-look_near-own-requires-clause-present g c = present c.self.inside.order c.self.inside.work.count c.args.self.now c.self.view_is c.place.inside.slot c.args.place c.place.view_is c.requires.within
+pub look_near-pointer-requires-clause-present : goal.look_near-pointer-requires-clause-present
+look_near-pointer-requires-clause-present g c = present c.self.inside.order c.self.inside.work.count c.args.self.now c.self.view_is c.place.inside.slot c.args.place c.place.view_is c.requires.within
 
 pub share_value-requires : goal.share_value-requires
 share_value-requires g c =
-    let same = ap cells_of c.look_near-own.ensures.rest in
-    let at = ap (λ l. slot_at l c.look_near-own.result) same ∙ c.look_near-own.ensures.link in
-    let there = value_at_slot (cells_of c.look_near-own.new.self) c.look_near-own.result c.place.inside.slot at in
+    let same = ap cells_of c.look_near-pointer.ensures.rest in
+    let at = ap (λ l. slot_at l c.look_near-pointer.result) same ∙ c.look_near-pointer.ensures.link in
+    let there = value_at_slot (cells_of c.look_near-pointer.new.self) c.look_near-pointer.result c.place.inside.slot at in
     let was = ap (λ l. entry_in (cell_at l c.place.inside.slot)) (sym same) ∙ ap entry_in there.1 in
     subst (λ n. IsSome (value_of (entry_of n))) (sym (c.follow-node.ensures c.place.inside.slot there.0 at there.1)) (c.requires.ready (entry_of there.0.value) (node_had c.self.inside.order c.self.inside.work.count c.args.self.now c.self.view_is c.place.inside.slot c.args.place c.place.view_is ∙ was))
 
 -- the node was looked up, and nothing else changed
 pub invariant_of-self : goal.invariant_of-self
 invariant_of-self g c =
-    let o = c.self.inside.order in let t = c.look_near-own.new.self in (
+    let o = c.self.inside.order in let t = c.look_near-pointer.new.self in (
       refl,
       tt,
-      whole_kept o (record o { slots = t }) c.self.invariant (table_looked o t c.look_near-own.ensures.rest c.look_near-own.ensures.tied c.self.invariant.linked) (only_looked o.slots t c.look_near-own.ensures.rest)
-          (looked_keeps o.slots t (cells_of t) c.look_near-own.ensures.rest (λ k. (refl, refl))),
+      whole_kept o (record o { slots = t }) c.self.invariant (table_looked o t c.look_near-pointer.ensures.rest c.look_near-pointer.ensures.tied c.self.invariant.linked) (only_looked o.slots t c.look_near-pointer.ensures.rest)
+          (looked_keeps o.slots t (cells_of t) c.look_near-pointer.ensures.rest (λ k. (refl, refl))),
     )
 
 -- the node was looked up, and given a pin
-pinned : (g : _) (c : After-set_pins g) → IsWritten c.self.inside.order (record c.self.inside.order { slots = with_node c.look_near-own.new.self c.look_near-own.result c.set_pins.new.self }) c.place.inside.slot c.look_near-own.result (entry_with_pins (c.args.pins + 1))
+pinned : (g : _) (c : After-set_pins g) → IsWritten c.self.inside.order (record c.self.inside.order { slots = with_node c.look_near-pointer.new.self c.look_near-pointer.result c.set_pins.new.self }) c.place.inside.slot c.look_near-pointer.result (entry_with_pins (c.args.pins + 1))
 pinned g c =
-    written c.self.inside.order c.look_near-own.new.self (with_node c.look_near-own.new.self c.look_near-own.result c.set_pins.new.self) (entry_with_pins (c.args.pins + 1)) (λ e. refl) c.self.invariant.linked c.look_near-own.ensures.rest c.look_near-own.ensures.tied c.look_near-own.ensures.link refl
-    (revalued (cells_of c.look_near-own.new.self) c.look_near-own.result c.follow_mut.result.now c.set_pins.new.self c.follow_mut.ensures.value (entry_with_pins (c.args.pins + 1)) c.set_pins.ensures)
+    written c.self.inside.order c.look_near-pointer.new.self (with_node c.look_near-pointer.new.self c.look_near-pointer.result c.set_pins.new.self) (entry_with_pins (c.args.pins + 1)) (λ e. refl) c.self.invariant.linked c.look_near-pointer.ensures.rest c.look_near-pointer.ensures.tied c.look_near-pointer.ensures.link refl
+    (revalued (cells_of c.look_near-pointer.new.self) c.look_near-pointer.result c.follow_mut.result.now c.set_pins.new.self c.follow_mut.ensures.value (entry_with_pins (c.args.pins + 1)) c.set_pins.ensures)
 
 -- the entry of the node that was looked up
 was : (g : _) (c : After-set_pins g) (e : _) → entry_at c.self.inside.order c.place.inside.slot ≡ Some e → entry_of c.follow-node.result.now ≡ e
-was g c = looked_entry c.self.inside.order c.look_near-own.new.self c.look_near-own.result c.place.inside.slot c.look_near-own.ensures.rest c.look_near-own.ensures.link c.follow-node.ensures
+was g c = looked_entry c.self.inside.order c.look_near-pointer.new.self c.look_near-pointer.result c.place.inside.slot c.look_near-pointer.ensures.rest c.look_near-pointer.ensures.link c.follow-node.ensures
 
 pub invariant_of-self-then-pins-gt0 : goal.invariant_of-self-then-pins-gt0
 invariant_of-self-then-pins-gt0 g c =
-    let o = c.self.inside.order in let t = c.look_near-own.new.self in let u = with_node c.look_near-own.new.self c.look_near-own.result c.set_pins.new.self in let w = pinned g (goal.at.invariant_of-self-then-pins-gt0 g c).After-set_pins in
-    (refl, tt, whole_kept o (record o { slots = u }) c.self.invariant w.linked (looked_and_wrote o.slots t u c.look_near-own.ensures.rest refl) w.listings)
+    let o = c.self.inside.order in let t = c.look_near-pointer.new.self in let u = with_node c.look_near-pointer.new.self c.look_near-pointer.result c.set_pins.new.self in let w = pinned g (goal.at.invariant_of-self-then-pins-gt0 g c).After-set_pins in
+    (refl, tt, whole_kept o (record o { slots = u }) c.self.invariant w.linked (looked_and_wrote o.slots t u c.look_near-pointer.ensures.rest refl) w.listings)
 
 pub returns-then-pins-gt0-clause-value : goal.returns-then-pins-gt0-clause-value
 returns-then-pins-gt0-clause-value g c e h =
@@ -66,7 +66,7 @@ returns-then-pins-gt0-clause-held g c some = ((pinned g (goal.at.returns-then-pi
 pub returns-then-pins-gt0-clause-hashes : goal.returns-then-pins-gt0-clause-hashes
 returns-then-pins-gt0-clause-hashes g c =
     let w = pinned g (goal.at.returns-then-pins-gt0-clause-hashes g c).After-set_pins in
-    hashes_same (cells_of c.self.inside.order.slots) (cells_of (with_node c.look_near-own.new.self c.look_near-own.result c.set_pins.new.self)) (λ k. (w.listings k).0) ∙ ap (λ (v : NodeTable g.row.K.Denot g.row.V.Denot). v.hashes) c.self.view_is
+    hashes_same (cells_of c.self.inside.order.slots) (cells_of (with_node c.look_near-pointer.new.self c.look_near-pointer.result c.set_pins.new.self)) (λ k. (w.listings k).0) ∙ ap (λ (v : NodeTable g.row.K.Denot g.row.V.Denot). v.hashes) c.self.view_is
 
 pub cut-requires : goal.cut-requires
 cut-requires g c =
@@ -76,8 +76,8 @@ cut-requires g c =
 
 pub invariant_of-self-2 : goal.invariant_of-self-2
 invariant_of-self-2 g c =
-    let o = c.self.inside.order in let t = c.look_near-own.new.self in let u = with_node c.look_near-own.new.self c.look_near-own.result c.set_pins.new.self in let q = c.cut.new.self in let w = pinned g (goal.at.invariant_of-self-2 g c).After-set_pins in
-    (refl, tt, whole_kept o q c.self.invariant c.cut.ensures.linked (then_writes o.slots u q.slots (looked_and_wrote o.slots t u c.look_near-own.ensures.rest refl) c.cut.ensures.rest) (then_keeps (cells_of o.slots) (cells_of u) (cells_of q.slots) w.listings c.cut.ensures.listings))
+    let o = c.self.inside.order in let t = c.look_near-pointer.new.self in let u = with_node c.look_near-pointer.new.self c.look_near-pointer.result c.set_pins.new.self in let q = c.cut.new.self in let w = pinned g (goal.at.invariant_of-self-2 g c).After-set_pins in
+    (refl, tt, whole_kept o q c.self.invariant c.cut.ensures.linked (then_writes o.slots u q.slots (looked_and_wrote o.slots t u c.look_near-pointer.ensures.rest refl) c.cut.ensures.rest) (then_keeps (cells_of o.slots) (cells_of u) (cells_of q.slots) w.listings c.cut.ensures.listings))
 
 pub returns-clause-value : goal.returns-clause-value
 returns-clause-value g c e h =
@@ -96,5 +96,5 @@ returns-clause-revived g c none =
 
 pub returns-clause-hashes : goal.returns-clause-hashes
 returns-clause-hashes g c =
-    let o = c.self.inside.order in let t = c.look_near-own.new.self in let u = with_node c.look_near-own.new.self c.look_near-own.result c.set_pins.new.self in let q = c.cut.new.self in let w = pinned g (goal.at.returns-clause-hashes g c).After-set_pins in
+    let o = c.self.inside.order in let t = c.look_near-pointer.new.self in let u = with_node c.look_near-pointer.new.self c.look_near-pointer.result c.set_pins.new.self in let q = c.cut.new.self in let w = pinned g (goal.at.returns-clause-hashes g c).After-set_pins in
     hashes_same (cells_of o.slots) (cells_of q.slots) (λ k. (then_keeps (cells_of o.slots) (cells_of u) (cells_of q.slots) w.listings c.cut.ensures.listings k).0) ∙ ap (λ (v : NodeTable g.row.K.Denot g.row.V.Denot). v.hashes) c.self.view_is

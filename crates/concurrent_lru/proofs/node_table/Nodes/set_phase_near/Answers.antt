@@ -8,18 +8,18 @@ use Rattle.concurrent_lru.proofs.Nodes.ShownChanges.{shown_rewritten_only, whole
 use Rattle.concurrent_lru.proofs.node_table.Nodes.set_phase_near.Goals.{After-set_phase}
 use Rattle.concurrent_lru.proofs.node_table.Nodes.set_phase_near.Goals as goal
 
-pub look_near-own-requires-clause-present : goal.look_near-own-requires-clause-present
-look_near-own-requires-clause-present g c = let i = c.self.inside in present i.order i.work.count c.args.self.now c.self.view_is c.place.inside.slot c.args.place c.place.view_is c.requires
+pub look_near-pointer-requires-clause-present : goal.look_near-pointer-requires-clause-present
+look_near-pointer-requires-clause-present g c = let i = c.self.inside in present i.order i.work.count c.args.self.now c.self.view_is c.place.inside.slot c.args.place c.place.view_is c.requires
 
-rewritten : (g : _) (c : After-set_phase g) → Rewrites c.self.inside.order.slots (with_node c.look_near-own.new.self c.look_near-own.result c.set_phase.new.self) c.place.inside.slot (entry_with_phase c.args.phase)
-rewritten g c = looked_rewritten c.self.inside.order.slots c.look_near-own.new.self c.look_near-own.result c.follow_mut.result.now c.set_phase.new.self (entry_with_phase c.args.phase) c.look_near-own.ensures.rest c.look_near-own.ensures.link c.follow_mut.ensures.value c.set_phase.ensures
+rewritten : (g : _) (c : After-set_phase g) → Rewrites c.self.inside.order.slots (with_node c.look_near-pointer.new.self c.look_near-pointer.result c.set_phase.new.self) c.place.inside.slot (entry_with_phase c.args.phase)
+rewritten g c = looked_rewritten c.self.inside.order.slots c.look_near-pointer.new.self c.look_near-pointer.result c.follow_mut.result.now c.set_phase.new.self (entry_with_phase c.args.phase) c.look_near-pointer.ensures.rest c.look_near-pointer.ensures.link c.follow_mut.ensures.value c.set_phase.ensures
 
 pub invariant_of-self : goal.invariant_of-self
 invariant_of-self g c =
-    let o = c.self.inside.order in let t = c.look_near-own.new.self in let u = with_node t c.look_near-own.result c.set_phase.new.self in
-    (refl, tt, whole_rewritten o u (entry_with_phase c.args.phase) (λ e. refl) c.self.invariant (looked_and_wrote o.slots t u c.look_near-own.ensures.rest refl) (rewritten g (goal.at.invariant_of-self g c).After-set_phase))
+    let o = c.self.inside.order in let t = c.look_near-pointer.new.self in let u = with_node t c.look_near-pointer.result c.set_phase.new.self in
+    (refl, tt, whole_rewritten o u (entry_with_phase c.args.phase) (λ e. refl) c.self.invariant (looked_and_wrote o.slots t u c.look_near-pointer.ensures.rest refl) (rewritten g (goal.at.invariant_of-self g c).After-set_phase))
 
 pub returns : goal.returns
 returns g c =
-    let o = c.self.inside.order in let t = c.look_near-own.new.self in let u = with_node t c.look_near-own.result c.set_phase.new.self in
-    shown_rewritten_only o u _ (entry_with_phase c.args.phase) c.self.view_is c.place.view_is c.self.invariant.linked (looked_and_wrote o.slots t u c.look_near-own.ensures.rest refl) (rewritten g (goal.at.returns g c).After-set_phase)
+    let o = c.self.inside.order in let t = c.look_near-pointer.new.self in let u = with_node t c.look_near-pointer.result c.set_phase.new.self in
+    shown_rewritten_only o u _ (entry_with_phase c.args.phase) c.self.view_is c.place.view_is c.self.invariant.linked (looked_and_wrote o.slots t u c.look_near-pointer.ensures.rest refl) (rewritten g (goal.at.returns g c).After-set_phase)

@@ -3,10 +3,10 @@ use Rattle.concurrent_lru.specs.Probing.Entries.{AreApart}
 use Rattle.concurrent_lru.proofs.Probing.Contents.Copies.{IsCopied}
 use Rattle.concurrent_lru.proofs.node_table.probes.copy_all.Given as goal
 
--- the entries of the slots before this one have been copied
-abbrev pub invariant-loop-slot : goal.invariant-loop-slot
-invariant-loop-slot g l = record {
+-- the entries of the buckets before this one have been copied
+abbrev pub invariant-loop-bucket : goal.invariant-loop-bucket
+invariant-loop-bucket g l = record {
   reached : IsReached (marks_of l.to);
   apart : AreApart l.to;
-  copied : IsCopied l.from l.to l.slot-index;
+  copied : IsCopied l.from l.to l.bucket-index;
 }

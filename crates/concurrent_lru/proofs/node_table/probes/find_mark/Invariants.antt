@@ -5,9 +5,9 @@ use Rattle.concurrent_lru.proofs.node_table.probes.find_mark.Given as goal
 -- all that is left of the walk lies ahead
 abbrev pub invariant-loop-mark : goal.invariant-loop-mark
 invariant-loop-mark g l = record {
-  within : l.at < length l.slots;
-  walk : walk_at (marks_of l.slots) l.mark l.from ≡ walk_at (marks_of l.slots) l.mark l.at;
+  within : l.at < length l.buckets;
+  walk : walk_at (marks_of l.buckets) l.mark l.from ≡ walk_at (marks_of l.buckets) l.mark l.at;
 }
 
 abbrev pub decreases-loop-mark : goal.decreases-loop-mark
-decreases-loop-mark g l = length (run_at (marks_of l.slots) l.at)
+decreases-loop-mark g l = length (run_at (marks_of l.buckets) l.at)

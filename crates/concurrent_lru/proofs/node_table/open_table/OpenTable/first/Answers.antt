@@ -9,21 +9,21 @@ use Rattle.concurrent_lru.proofs.node_table.open_table.OpenTable.first.Goals as 
 
 pub returns-then-count-eq0-clause-all : goal.returns-then-count-eq0-clause-all
 returns-then-count-eq0-clause-all g c k h =
-    absurd (none_filled c.args.self.now k (mark_of c.args.hash) (omega (arith, ap length c.self.view_is, c.self.inside.slots.ok)) h (mark_filled c.args.hash))
+    absurd (none_filled c.args.self.now k (mark_of c.args.hash) (omega (arith, ap length c.self.view_is, c.self.inside.buckets.ok)) h (mark_filled c.args.hash))
 
 pub find_mark-requires-clause-ends : goal.find_mark-requires-clause-ends
-find_mark-requires-clause-ends g c = some_in c.self.inside.slots.items c.deref.result.now c.self.inside.len c.self.invariant c.deref.ensures.value (omega (arith, c.self.inside.slots.ok))
+find_mark-requires-clause-ends g c = some_in c.self.inside.buckets.items c.deref.result.now c.self.inside.len c.self.invariant c.deref.ensures.value (omega (arith, c.self.inside.buckets.ok))
 
 pub returns-clause-mark : goal.returns-clause-mark
 returns-clause-mark g c =
-    let many : c.len-count.result ≡ length c.self.inside.slots.items = omega (arith, c.self.inside.slots.ok) in
-    let begins : c.home_of-home.result ≡ home_of (length c.self.inside.slots.items) c.mark_of-mark.result = c.home_of-home.ensures.home ∙ ap (λ n. home_of n c.mark_of-mark.result) many in
-    begun_mark c.self.inside.slots.items c.deref.result.now c.args.self.now c.self.inside.len c.args.hash c.mark_of-mark.result c.home_of-home.result c.self.invariant c.deref.ensures.value c.self.view_is c.mark_of-mark.ensures.mark begins
+    let many : c.len-count.result ≡ length c.self.inside.buckets.items = omega (arith, c.self.inside.buckets.ok) in
+    let begins : c.home_of-home.result ≡ home_of (length c.self.inside.buckets.items) c.mark_of-mark.result = c.home_of-home.ensures.home ∙ ap (λ n. home_of n c.mark_of-mark.result) many in
+    begun_mark c.self.inside.buckets.items c.deref.result.now c.args.self.now c.self.inside.len c.args.hash c.mark_of-mark.result c.home_of-home.result c.self.invariant c.deref.ensures.value c.self.view_is c.mark_of-mark.ensures.mark begins
     c.find_mark.result c.find_mark.ensures
 
 pub returns-clause-all : goal.returns-clause-all
 returns-clause-all g c =
-    let many : c.len-count.result ≡ length c.self.inside.slots.items = omega (arith, c.self.inside.slots.ok) in
-    let begins : c.home_of-home.result ≡ home_of (length c.self.inside.slots.items) c.mark_of-mark.result = c.home_of-home.ensures.home ∙ ap (λ n. home_of n c.mark_of-mark.result) many in
-    begun_all c.self.inside.slots.items c.deref.result.now c.args.self.now c.self.inside.len c.args.hash c.mark_of-mark.result c.home_of-home.result c.self.invariant c.deref.ensures.value c.self.view_is c.mark_of-mark.ensures.mark begins
+    let many : c.len-count.result ≡ length c.self.inside.buckets.items = omega (arith, c.self.inside.buckets.ok) in
+    let begins : c.home_of-home.result ≡ home_of (length c.self.inside.buckets.items) c.mark_of-mark.result = c.home_of-home.ensures.home ∙ ap (λ n. home_of n c.mark_of-mark.result) many in
+    begun_all c.self.inside.buckets.items c.deref.result.now c.args.self.now c.self.inside.len c.args.hash c.mark_of-mark.result c.home_of-home.result c.self.invariant c.deref.ensures.value c.self.view_is c.mark_of-mark.ensures.mark begins
     c.find_mark.result c.find_mark.ensures c.mark_of-mark.ensures.filled
