@@ -48,14 +48,14 @@ words_in (keys.Bytes c) = as_none (entries_of c)
 words_in (keys.Words c) = Some (entries_of c)
 
 -- `done` if the chain has no entries, otherwise `not_empty`
-abbrev pub filled_code : AnyChain → ℕ
-filled_code (keys.Bytes c) = code_of_entries (entries_of c)
-filled_code (keys.Words c) = code_of_entries (entries_of c)
+abbrev pub emptiness_code : AnyChain → ℕ
+emptiness_code (keys.Bytes c) = code_of_entries (entries_of c)
+emptiness_code (keys.Words c) = code_of_entries (entries_of c)
 
 -- whether a chain takes entries: `done` if it is open and empty, or else the reason
 abbrev pub chain_code : Option AnyChain → ℕ
 chain_code None = code.closed
-chain_code (Some c) = filled_code c
+chain_code (Some c) = emptiness_code c
 
 -- the call took out the first entry, if there was one, and returned it
 abbrev pub PopsAny : AnyChain → Option LruGone → AnyChain → Type 0
@@ -70,4 +70,4 @@ PopsOpen old told new = OnOpen old new (λ o n. PopsAny o told n) (told ≡ None
 
 -- the chain has no entries
 abbrev pub IsEmpty : AnyChain → Type 0
-IsEmpty c = filled_code c ≡ code.done
+IsEmpty c = emptiness_code c ≡ code.done

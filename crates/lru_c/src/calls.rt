@@ -300,7 +300,7 @@ pub extern "C" fn lru_cache_stats(cache: &mut LruCache, out: &mut LruStats) -> u
 }
 
 /// Writes the entry of a pin: its value, its charge, and how many pins it has. The pin may have
-/// been given back, as long as the entry is there.
+/// been released, as long as the entry is in the cache.
 ///
 /// Returns `STALE` if no entry with a value has the stamp of the pin, and `CLOSED` if the cache is
 /// not open; nothing is written then.
@@ -350,11 +350,11 @@ pub extern "C" fn lru_chain_free(chain: &mut LruChain) -> u32
     ensures chain { MatchBool (result == codes.done) (chain.new.chain.held ≡ None)
         (chain.new.chain.held ≡ chain.old.chain.held) }
 {
-    let filled = chain_calls::is_filled(chain);
-    if filled == code::DONE {
+    let code = chain_calls::emptiness_code(chain);
+    if code == code::DONE {
         drop(take(chain));
     }
-    filled
+    code
 }
 
 /// Takes the first entry out of a chain. Returns false if none is left or the chain is not open.
@@ -368,7 +368,7 @@ pub extern "C" fn lru_chain_pop(chain: &mut LruChain, out: &mut LruGone) -> bool
         return false;
     };
     // Most calls evict nothing, so this returns before registers are saved for the rest.
-    if chain.is_filled() == code::DONE {
+    if chain.emptiness_code() == code::DONE {
         return false;
     }
     match chain.pop() {
@@ -387,5 +387,5 @@ pub extern "C" fn lru_chain_is_empty(chain: &mut LruChain) -> bool
     ensures empty { MatchBool (chain_code chain.old.chain.held == codes.not_empty)
         (result ≡ false) (result ≡ true) }
 {
-    chain_calls::is_filled(chain) != code::NOT_EMPTY
+    chain_calls::emptiness_code(chain) != code::NOT_EMPTY
 }

@@ -29,7 +29,7 @@ impl<K: Drop> Chain<K> {
     }
 
     // Returns `NOT_EMPTY` if the chain has entries, otherwise `DONE`.
-    pub(crate) fn is_filled(&self) -> u32
+    pub(crate) fn emptiness_code(&self) -> u32
         ensures { result ≡ code_of_entries (entries_of self.now) }
     {
         if !self.first.is_empty() {
@@ -77,7 +77,7 @@ pub enum AnyChain {
 
 impl AnyChain {
     ghost use Rattle.std.specs.Prelude.{Some, ◌++◌};
-    ghost use Rattle.lru_c.specs.Chains.{bytes_in, filled_code, words_in, IsEmpty, PopsAny};
+    ghost use Rattle.lru_c.specs.Chains.{bytes_in, emptiness_code, words_in, IsEmpty, PopsAny};
 
     // Returns a chain of no entries. It takes entries with keys of either kind.
     pub(crate) fn none() -> AnyChain
@@ -114,13 +114,13 @@ impl AnyChain {
         answer
     }
 
-    // Becomes `filled` if that has entries. Most calls evict nothing, and write no chain.
+    // Becomes `filled` if that has entries. Most calls evict nothing, and then nothing is written.
     #[inline(always)]
     pub(crate) fn fill_bytes(&mut self, filled: Chain<Bytes>)
         requires { IsEmpty self.old }
         ensures { bytes_in self.new ≡ Some (entries_of filled) }
     {
-        if filled.is_filled() == code::NOT_EMPTY {
+        if filled.emptiness_code() == code::NOT_EMPTY {
             self.replace(AnyChain::Bytes(filled));
         }
     }
@@ -159,7 +159,7 @@ impl AnyChain {
         requires { IsEmpty self.old }
         ensures { words_in self.new ≡ Some (entries_of filled) }
     {
-        if filled.is_filled() == code::NOT_EMPTY {
+        if filled.emptiness_code() == code::NOT_EMPTY {
             self.replace(AnyChain::Words(filled));
         }
     }
@@ -173,12 +173,12 @@ impl AnyChain {
     }
 
     // Returns `NOT_EMPTY` if the chain has entries, otherwise `DONE`.
-    pub(crate) fn is_filled(&self) -> u32
-        ensures { result ≡ filled_code self.now }
+    pub(crate) fn emptiness_code(&self) -> u32
+        ensures { result ≡ emptiness_code self.now }
     {
         match self {
-            AnyChain::Bytes(chain) => chain.is_filled(),
-            AnyChain::Words(chain) => chain.is_filled(),
+            AnyChain::Bytes(chain) => chain.emptiness_code(),
+            AnyChain::Words(chain) => chain.emptiness_code(),
         }
     }
 

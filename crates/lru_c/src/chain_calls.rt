@@ -1,4 +1,4 @@
-//! The chain that a call fills, and whether it has entries.
+//! The chain that a call fills, and the code that says whether it can be filled.
 ghost use Rattle.std.specs.Borrow.{sem};
 ghost use Rattle.std.specs.Prelude.{◌≡◌, ◌≢◌, Some, MatchResult};
 ghost use Rattle.lru_c.specs.Chains.{chain_code, IsEmpty};
@@ -20,11 +20,11 @@ pub(crate) fn empty_chain<G: Handle<To = AnyChain>>(gone: &mut G) -> Result<&mut
 {
     match gone.get_mut() {
         Some(chain) => {
-            let filled = chain.is_filled();
-            if filled == code::DONE {
+            let code = chain.emptiness_code();
+            if code == code::DONE {
                 Ok(chain)
             } else {
-                Err(filled)
+                Err(code)
             }
         }
         None => Err(code::CLOSED),
@@ -32,12 +32,12 @@ pub(crate) fn empty_chain<G: Handle<To = AnyChain>>(gone: &mut G) -> Result<&mut
 }
 
 // Returns `DONE` if a chain is open and empty, otherwise `CLOSED` or `NOT_EMPTY`.
-pub(crate) fn is_filled(chain: &mut LruChain) -> u32
+pub(crate) fn emptiness_code(chain: &mut LruChain) -> u32
     ensures same { chain.new.chain.held ≡ chain.old.chain.held }
     ensures code { result ≡ chain_code chain.old.chain.held }
 {
     match chain.get_mut() {
-        Some(chain) => chain.is_filled(),
+        Some(chain) => chain.emptiness_code(),
         None => code::CLOSED,
     }
 }

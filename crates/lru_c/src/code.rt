@@ -38,7 +38,7 @@ pub const NO_ROOM: u32 = 17;
 pub const PINNED: u32 = 18;
 /// Refused: a key of bytes for a cache whose keys are two words, or the other way round.
 pub const OTHER_KEYS: u32 = 19;
-/// Refused: beside the held entries, the capacity has no room for the charge.
+/// Refused: the held entries leave the capacity no room for the charge.
 pub const FULL: u32 = 20;
 /// Refused: a kind of keys that does not exist.
 pub const NO_KIND: u32 = 21;

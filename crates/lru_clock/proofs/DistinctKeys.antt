@@ -1,4 +1,4 @@
--- Lists of keys of which no two are equal: one key more, and one less.
+-- Lists of keys no two of which are equal: adding a key, and removing one.
 use Rattle.std.proofs.Common.{◌≡◌, ℕ, zero, suc, Bool, false, List, [], ◌∷◌, ◌++◌, map, take, drop}
 use Rattle.std.specs.List.{AllByRecursion, IsDistinct, list_any}
 use Rattle.std.proofs.lemmas.Bool.{or_parts}
@@ -7,7 +7,7 @@ all_with : {K : Type 0} (P : K → Type 0) (ks : List K) (k : K) → AllByRecurs
 all_with P [] k all here = (here, tt)
 all_with P (x ∷ ks) k all here = (all.0, all_with P ks k all.1 here)
 
--- one key more, which equals none
+-- adding a key that equals none of them
 pub distinct_with : {K : Type 0} (E : K → K → Bool) (ks : List K) (k : K) → list_any (λ made. E made k) ks ≡ false → IsDistinct E ks → IsDistinct E (ks ++ k ∷ [])
 unfolding IsDistinct
 distinct_with E [] k absent distinct = (tt, tt)
@@ -21,7 +21,7 @@ all_without P f [] (suc i) all = tt
 all_without P f (x ∷ xs) zero all = all.1
 all_without P f (x ∷ xs) (suc i) all = (all.0, all_without P f xs i all.1)
 
--- one key less
+-- removing a key
 pub distinct_without : {K X : Type 0} (E : K → K → Bool) (f : X → K) (xs : List X) (i : ℕ) → IsDistinct E (map f xs) → IsDistinct E (map f (take i xs ++ drop (suc i) xs))
 unfolding IsDistinct
 distinct_without E f [] zero distinct = tt

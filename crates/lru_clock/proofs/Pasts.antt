@@ -98,7 +98,7 @@ module _ {K V : Type 0} where
   pub still_begun : (p : ℕ) (xs ys : List (Event K V)) → IsPrefix xs ys → 0 < turns p xs → 0 < turns p ys
   still_begun p xs ys pre some = omega (arith, turns-append p xs pre.0, ap (turns p) pre.1, some)
 
-  -- an event more raises the counter of its own place, and that of no other
+  -- another event raises the counter of its own place, and that of no other
   pub one_more : (p : ℕ) (log : List (Event K V)) (e : Event K V) → e.place ≡ p → turns p (log ++ e ∷ []) ≡ turns p log + (e.skipped + 1)
   one_more p log e at =
       let here : (e.place == p) ≡ true = grind (arith, nat_tests) in
@@ -321,7 +321,7 @@ module _ {K V : Type 0} where
       let both : entry_at w.key a.log.log ≡ entry_at w.key b.log.log = same_entry w.key a.log.log b.log.log zs one other (at.count ∙ (same ∙ sym to.count)) in
       cc (sym first ∙ (both ∙ second))
 
--- what holds of each item of a list holds with one more
+-- a property of each item of a list still holds if an item that has it is added
 pub each_push : {A : Type 0} (P : A → Type 0) (xs : List A) (y : A) → EachOf P xs → P y → EachOf P (xs ++ y ∷ [])
 each_push P [] y old new zero x is = subst P (cc is) new
 each_push P [] y old new (suc k) x is = absurd (cc is)

@@ -6,7 +6,8 @@ use Rattle.lru_clock.specs.declared.history.Event.{Event}
 use Rattle.lru_clock.specs.declared.history.Arrival.{Arrival}
 use Rattle.lru_clock.specs.History.{turns, event}
 
--- it is the arrival of this entry at the slot of this counter, with a number that was drawn before
+-- the arrival of an entry at the slot of a counter: its number was drawn before, and is the value
+-- that the counter then has
 pub record Arrives {K V : Type 0} (w : Named) (a : Arrival K V) (e : Entry K V) : Type 0 where
   pub book : a.log.book ≡ w.book
   pub count : turns w.key a.log.log ≡ a.number

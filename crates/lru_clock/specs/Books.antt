@@ -1,4 +1,4 @@
--- How a tag names a history, and what holds of each item of a list.
+-- The numbers by which a tag names a history, and a property of each item of a list.
 use Rattle.std.specs.Prelude.{◌≡◌, ℕ, List, [], ◌∷◌, Some, slice_get}
 use Rattle.logbook.specs.Pages.{Book}
 

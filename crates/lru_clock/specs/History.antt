@@ -21,11 +21,11 @@ module _ {K V : Type 0} where
   abbrev pub of_place : ℕ → Event K V → ℕ
   of_place p e = if e.place == p then e.skipped + 1 else 0
 
-  -- the counter of a place, which each of its events raises
+  -- the counter of a place after these events
   abbrev pub turns : ℕ → List (Event K V) → ℕ
   turns p log = sum_by (of_place p) log
 
-  -- what the slot at a place has after these events, if it had this before them
+  -- the entry that the slot at a place has after these events, if it had this one before them
   abbrev pub entry_after : ℕ → Option (Entry K V) → List (Event K V) → Option (Entry K V)
   entry_after p had [] = had
   entry_after p had (e ∷ es) = entry_after p (if e.place == p then e.entry else had) es
@@ -34,8 +34,8 @@ module _ {K V : Type 0} where
   abbrev pub entry_at : ℕ → List (Event K V) → Option (Entry K V)
   entry_at p log = entry_after p None log
 
-  -- after the first of these prefixes the entry came to the slot at a place, and it is there at the
-  -- end of the second
+  -- the entry came to the slot at a place after the prefix `since`, and is there at the end of
+  -- `log`
   pub record HasCome (p : ℕ) (since : List (Event K V)) (e : Entry K V) (log : List (Event K V)) : Type 0 where
     pub before : List (Event K V)
     pub later : IsPrefix since before

@@ -1,4 +1,4 @@
--- What a history says of a hit.
+-- What a history says about a hit.
 use Rattle.std.specs.Prelude.{◌≡◌, ℕ, Bool, true, List}
 use mathlib.Core.List.{IsPrefix}
 use Rattle.logbook.specs.Pages.{Book}
@@ -7,11 +7,12 @@ use Rattle.lru_clock.specs.History.{entry, HasCome}
 use Rattle.lru_clock.specs.Pins.{PastOf}
 
 module _ {K V : Type 0} (E : K → K → Bool) where
-  -- after the first of these prefixes, an entry with an equal key and this value came to some slot,
-  -- and it is there at the end of the second
+  -- an entry with an equal key and this value came to some slot after the prefix `since`, and is
+  -- there at the end of `log`
   abbrev pub IsFresh : List (Event K V) → List (Event K V) → K → V → Type 0
   IsFresh since log k v = (p : ℕ) × (l : K) × HasCome p since (entry l v) log × (E l k ≡ true)
 
-  -- what was seen extends what the past had seen, and such an entry is there at its end
+  -- `log` is of the past's history and extends what the past has seen, and such an entry is there
+  -- at the end of it
   abbrev pub Sees : PastOf K V → K → V → Book → List (Event K V) → Type 0
   Sees past k v book log = (book ≡ past.book) × IsPrefix past.seen log × IsFresh past.since log k v

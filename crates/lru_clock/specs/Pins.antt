@@ -1,9 +1,10 @@
--- What a pin shows.
+-- What clauses see of a past and of a pin.
 use Rattle.std.specs.Prelude.{List}
 use Rattle.logbook.specs.Pages.{Book}
 use Rattle.lru_clock.specs.declared.history.Event.{Event}
 
--- whose history it is, the prefix after which entries must have come, and the prefix that was seen
+-- whose history it is, the prefix after which entries must have come to be found, and the prefix
+-- that was seen
 pub record PastOf (K V : Type 0) : Type 0 where
   pub book : Book
   pub since : List (Event K V)

@@ -4,8 +4,8 @@ use Rattle.std.proofs.Math.ListN.{set}
 use Rattle.lru_clock.specs.Seats.{Seat, listed_as}
 
 module _ {K : Type 0} where
-  -- an entry of this charge may be put at a place: it is there, the index has no entry there, and
-  -- the sum of the charges stays within a `u64`
+  -- an entry of this charge may be put at a place: the place has a seat, the index has no entry
+  -- there, and the sum of the charges stays within a `u64`
   pub record IsFree (seats : List (Seat K)) (p charge : ℕ) : Type 0 where
     pub seat : Seat K
     pub is : slice_get seats p ≡ Some seat
@@ -16,6 +16,6 @@ module _ {K : Type 0} where
   abbrev pub ListsAt : List (Seat K) → ℕ → List (Seat K) → Type 0
   ListsAt old p new = (s : Seat K) × (slice_get old p ≡ Some s) × (s.is_listed ≡ false) × (new ≡ set old p (listed_as true s))
 
-  -- the index has the entry of a place no more, if there is such a place
+  -- the index does not have the entry of a place from now on, if there is such a place
   abbrev pub UnlistsAt : List (Seat K) → ℕ → List (Seat K) → Type 0
   UnlistsAt old p new = MatchOption (slice_get old p) (new ≡ old) (λ s. new ≡ set old p (listed_as false s))

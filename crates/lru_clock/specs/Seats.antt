@@ -5,7 +5,8 @@ use Rattle.concurrent_lru.specs.Probing.Probes.{IsReached}
 use Rattle.concurrent_lru.specs.Probing.Entries.{count, entry, Has, AreApart}
 use Rattle.lru_clock.specs.Index.{IsSize, word_of}
 
--- the charge of the entry, the tag of the hash of its key, whether the index has it, and its key
+-- the charge of the entry, the tag of the hash of its key, whether the index has the entry, and a
+-- copy of its key
 pub record Seat (K : Type 0) : Type 0 where
   pub charge : ℕ
   pub tag : ℕ
@@ -17,11 +18,11 @@ module _ {K : Type 0} where
   seat_code key = code_by (ℕ × (ℕ × (Bool × Option K))) (coded× coded_ℕ (coded× coded_ℕ (coded× coded_bool (coded_option key))))
       (λ s. (s.charge, (s.tag, (s.is_listed, s.key)))) (λ p. record { charge = p.0; tag = p.1.0; is_listed = p.1.1.0; key = p.1.1.1 }) (λ _. refl)
 
-  -- a seat without an entry, and one whose entry the index does not have yet
+  -- the seat of a place without an entry, or of an entry that the index does not have
   abbrev pub seat : ℕ → ℕ → Option K → Seat K
   seat charge tag key = record { charge = charge; tag = tag; is_listed = false; key = key }
 
-  -- the same seat, which the index has, or has not
+  -- the same seat, of an entry that the index has or does not have
   abbrev pub listed_as : Bool → Seat K → Seat K
   listed_as b s = record { charge = s.charge; tag = s.tag; is_listed = b; key = s.key }
 
@@ -34,7 +35,7 @@ module _ {K : Type 0} where
     pub key : seat.key ≡ Some k
 
   module _ (E : K → K → Bool) where
-    -- no entry that the index has is the key's
+    -- the index has no entry of the key
     abbrev pub LacksKey : List (Seat K) → ℕ → K → Type 0
     LacksKey seats t k = (p : ℕ) (l : K) → IsListed seats p t l → E l k ≡ false
 
@@ -42,11 +43,11 @@ module _ {K : Type 0} where
     abbrev pub HasKeyAt : List (Seat K) → ℕ → K → ℕ → Type 0
     HasKeyAt seats t k p = (l : K) × IsListed seats p t l × (E l k ≡ true)
 
-    -- no key has two entries that the index has
+    -- the index has at most one entry of each key
     abbrev pub HaveOneEach : List (Seat K) → Type 0
     HaveOneEach seats = (p q t : ℕ) (k l : K) → IsListed seats p t k → IsListed seats q t l → E k l ≡ true → p ≡ q
 
-    -- the words lead to the entries that the index is said to have, and to no others
+    -- the words lead to exactly those entries that the index has according to the seats
     pub record IsIndex (seats : List (Seat K)) (words : List ℕ) : Type 0 where
       pub reached : IsReached words
       pub apart : AreApart (map (λ w. entry w w) words)

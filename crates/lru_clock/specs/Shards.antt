@@ -10,7 +10,7 @@ pub record CacheOf (S : Type 0) : Type 0 where
   pub hasher : S
   pub books : List Book
 
--- it is at the place of the shard of a key with this number
+-- it is the one of these that belongs to the shard of a key with this number
 abbrev pub IsShardOf : {A : Type 0} → List A → ℕ → A → Type 0
 IsShardOf shards number x = slice_get shards (number % length shards) ≡ Some x
 

@@ -1,7 +1,7 @@
 //! A cache in shards whose hits take no lock, for any number of threads.
 //!
-//! A hasher chooses the shard of a key. A hit pins its entry by a compare-exchange, and the drop of
-//! its handle is one subtraction. What is not a hit takes the lock of the key's shard.
+//! A hasher chooses the shard of a key. A hit pins its entry by a compare-exchange, and dropping
+//! its handle is one subtraction. Everything else takes the lock of the key's shard.
 ghost use Rattle.std.specs.Prelude.{◌≡◌, ◌≢◌, ◌<◌, Some, None, Ok, Err, IfOk, IfErr, IfSome};
 ghost use Rattle.std.specs.Prelude.{length, vec_len};
 ghost use Rattle.std.specs.Fn.{FnOnceReturnsAt, FnOnceTakesAt};
@@ -26,13 +26,14 @@ use std::hash::{BuildHasher, Hash, RandomState};
 use std::marker::Model;
 use std::sync::Wait;
 
-// The number of shards of a cache that is created without one.
+// The number of shards of a cache that is created without a number.
 const DEFAULT_SHARDS: usize = 16;
 
 /// A cache that threads share, in shards that each have a lock and a share of the capacity. `R` is
 /// the right to wait, `S` hashes the keys, and `F` is the mark, which relates values to keys.
 ///
-/// Whenever the lock of a shard is acquired, its total is the sum of the charges of its entries.
+/// Whenever the lock of a shard is acquired, the shard's total is the sum of the charges of its
+/// entries.
 ///
 /// Clauses see the hasher, and a name for the history of each shard.
 #[derive(Drop)]
@@ -142,9 +143,9 @@ impl<
         Cache::with_most_pins(alloc, rt, capacity, shards, hasher, MOST_PINS)
     }
 
-    /// `marked` with another maximum of pins that an entry may have, from 1 to 1,073,741,822, which
-    /// it is otherwise. A number outside of that range stands for the nearest one in it. Whoever
-    /// compares an entry's key has a pin of it for that moment.
+    /// `marked` with another maximum number of pins of an entry, from 1 to 1,073,741,822, which is
+    /// the default. A number outside that range stands for the nearest number in it. A caller that
+    /// compares an entry's key has the entry pinned meanwhile.
     ///
     /// Returns `Memory` as `new` does.
     pub fn with_most_pins(
@@ -180,7 +181,7 @@ impl<K: Hash + Eq + Clone + Drop, V: Drop, R: Wait, S: BuildHasher, F: Fit<K, V>
     S,
     F,
 > {
-    // Returns the shard of a key and the tag by which its index knows the key.
+    // Returns the shard of a key and the tag under which the shard's index has the key.
     #[inline(always)]
     fn route(&self, key: &K) -> (&Shard<K, V, F>, u32)
         ensures book { IsBookOf S.BuildHasher S.Hasher.Hasher K.hash_input self.now key.now
@@ -190,7 +191,7 @@ impl<K: Hash + Eq + Clone + Drop, V: Drop, R: Wait, S: BuildHasher, F: Fit<K, V>
     }
 
     /// Reserves room in each shard for its share of `entries` entries, those present included, one
-    /// shard after another. A shard that gets more grows under its lock as needed.
+    /// shard after another. A shard that gets more entries than that grows under its lock.
     ///
     /// Returns `Memory` if the allocator refuses, and `Overflow` if a share is above 4,294,966,784.
     /// No entry changes in either case, though some room may have been reserved.
@@ -204,11 +205,11 @@ impl<K: Hash + Eq + Clone + Drop, V: Drop, R: Wait, S: BuildHasher, F: Fit<K, V>
         Ok(())
     }
 
-    /// Returns a handle of the key's value if it is there, and `None` if it is not or is still
-    /// being made. A hit acquires no lock; a miss looks once more under the lock of the shard.
-    /// Never waits for a maker. `find` takes the key by reference.
+    /// Returns a handle of the key's value if it is ready, and `None` if the key has no entry or
+    /// its value is still being made. A hit acquires no lock; a miss looks once more under the lock
+    /// of the shard. Never waits for a maker. `find` takes the key by reference.
     ///
-    /// Returns `Overflow` if the entry has the maximum of pins.
+    /// Returns `Overflow` if the entry has the maximum number of pins.
     #[inline(always)]
     pub fn get(&self, key: K) -> Result<Option<CacheHandle<'_, K, V, R, F>>, Refusal>
         ensures key { IfOk result (λ found. IfSome found (λ h. h.key ≡ key)) }
@@ -236,12 +237,12 @@ impl<K: Hash + Eq + Clone + Drop, V: Drop, R: Wait, S: BuildHasher, F: Fit<K, V>
         }
     }
 
-    /// Calls `reader` with the key's value, if it is there, and returns its result. Returns `None`
-    /// if the value is not there or is still being made; `reader` is then dropped without being
-    /// called.
+    /// Calls `reader` with the key's value, if it is ready, and returns its result. Returns `None`
+    /// if the key has no entry or its value is still being made; `reader` is then dropped without
+    /// being called.
     ///
-    /// It is a `get` whose handle is dropped after `reader` has returned: it pins the entry, and
-    /// `reader` runs without a lock, so it may take long and use this cache.
+    /// This is a `get` whose handle is dropped after `reader` has returned: the entry is pinned
+    /// meanwhile, and `reader` runs without a lock, so it may run for long and use this cache.
     ///
     /// Returns `Overflow` as `get` does.
     #[inline(always)]
@@ -260,15 +261,15 @@ impl<K: Hash + Eq + Clone + Drop, V: Drop, R: Wait, S: BuildHasher, F: Fit<K, V>
     }
 
     /// Returns a handle of the key's value, which `init` makes if the key has none. Waits while
-    /// another caller makes it; if that making fails or is invalidated, makes it itself.
+    /// another caller makes it; if that making fails or is invalidated, this call makes the value.
     /// `get_or_try_init_by` takes the key by reference.
     ///
     /// `init` runs without a lock. Then entries are evicted to make room for the charge, and the
     /// value is stored. If the key was invalidated meanwhile, only this caller gets the value.
     ///
-    /// Returns `Init` if `init` returned that error, `Overflow` if the entry has the maximum of
-    /// pins or the sum of the shard's charges would pass the maximum of a `u64`, and `Memory` if a
-    /// copy of the key or a slot is refused. A value that was made by then is dropped.
+    /// Returns `Init` with the error that `init` returned, `Overflow` if the entry has the maximum
+    /// number of pins or the charge would take the shard's total past `u64::MAX`, and `Memory` if a
+    /// copy of the key or a slot is refused. A value that was already made is dropped.
     #[inline(always)]
     pub fn get_or_try_init<E, I>(
         &self,
@@ -387,13 +388,13 @@ impl<K: Hash + Eq + Clone + Drop, V: Drop, R: Wait, S: BuildHasher, F: Fit<K, V>
         Ok(CacheHandle::new(&self.rt, shard, place, pin, Some(charge)))
     }
 
-    /// Inserts a value into the key's shard, replacing what the key has, and returns its handle. It
-    /// invalidates the key, whose value may be held or being made, and stores the new entry in one
-    /// step, unless more than the old entry has to leave to make room: then the key may be found
-    /// without an entry in between.
+    /// Inserts a value for a key, replacing the key's entry, and returns a handle of the value. The
+    /// key is invalidated, even if its old value is pinned or being made, and the new entry is
+    /// stored in the same step, unless more than the old entry must be evicted to make room: then
+    /// other callers may find the key without an entry in between.
     ///
-    /// Returns `Overflow` if the sum of the shard's charges, the old entry's included, would pass
-    /// the maximum of a `u64`, and `Memory` if the copy of the key or a slot is refused. Then the
+    /// Returns `Overflow` if the charge would take the shard's total, with the old entry still
+    /// counted, past `u64::MAX`, and `Memory` if a copy of the key or a slot is refused. Then the
     /// value is dropped, and the key's entry stays.
     pub fn insert(
         &self,
@@ -414,8 +415,8 @@ impl<K: Hash + Eq + Clone + Drop, V: Drop, R: Wait, S: BuildHasher, F: Fit<K, V>
         Ok(CacheHandle::new(&self.rt, shard, place, pin, Some(charge)))
     }
 
-    /// Evicts the entry of a key if nobody has pinned it, whatever its chances. Otherwise nothing
-    /// happens, now or later. Takes no memory. `advise` takes the key by reference.
+    /// Evicts the entry of a key, even a recently used one, if nobody has pinned it. Otherwise
+    /// nothing happens, now or later. Takes no memory. `advise` takes the key by reference.
     pub fn advice_evict(&self, key: K) {
         self.advise(&key);
     }
@@ -426,10 +427,10 @@ impl<K: Hash + Eq + Clone + Drop, V: Drop, R: Wait, S: BuildHasher, F: Fit<K, V>
         shard.advise(&self.rt, tag, key);
     }
 
-    /// Invalidates a key in its shard: whoever asks for it after this call gets a value that is
-    /// made after it, even while others hold the old one. An entry that nobody has pinned leaves. A
-    /// pinned one stays for its holders only, and leaves when its last handle is dropped. Copies no
-    /// key and takes no memory.
+    /// Invalidates a key: whoever asks for it after this call gets a value that is made or inserted
+    /// later, even while others have the old one pinned. An entry that nobody has pinned is removed
+    /// at once. A pinned entry stays for its handles alone, and is removed when the last of them is
+    /// dropped. Copies no key and takes no memory.
     pub fn invalidate(&self, key: &K) {
         let (shard, tag) = self.route(key);
         shard.invalidate(&self.rt, tag, key);
@@ -462,8 +463,8 @@ impl<K: Hash + Eq + Clone + Drop, V: Drop, R: Wait, S: BuildHasher, F: Fit<K, V>
         capacity
     }
 
-    /// Returns the sum of the shards' totals, read one after another, so it is no snapshot. Takes
-    /// no memory.
+    /// Returns the sum of the charges of all entries. The shards are read one after another, so it
+    /// is not a snapshot. Takes no memory.
     pub fn total_charge(&self) -> u128 {
         let mut total = 0;
         for shard in &self.shards {
@@ -473,8 +474,7 @@ impl<K: Hash + Eq + Clone + Drop, V: Drop, R: Wait, S: BuildHasher, F: Fit<K, V>
     }
 
     /// Returns the sum of the charges of the pinned entries. The shards are read one after another,
-    /// and hits pin entries meanwhile, so it is no snapshot. Looks at every slot, and takes no
-    /// memory.
+    /// and hits pin entries meanwhile, so it is not a snapshot. Visits every slot. Takes no memory.
     pub fn pinned_charge(&self) -> u128 {
         let mut pinned = 0;
         for shard in &self.shards {
@@ -483,9 +483,9 @@ impl<K: Hash + Eq + Clone + Drop, V: Drop, R: Wait, S: BuildHasher, F: Fit<K, V>
         pinned
     }
 
-    /// Returns the number of entries, including those held after an `invalidate` and without those
-    /// that are being made. The shards are read one after another, so it is no snapshot. Takes no
-    /// memory.
+    /// Returns the number of entries, including those still pinned after an `invalidate`, but not
+    /// values that are being made. The shards are read one after another, so it is not a snapshot.
+    /// Takes no memory.
     pub fn len(&self) -> usize {
         let mut len = 0usize;
         for shard in &self.shards {
@@ -499,15 +499,15 @@ impl<K: Hash + Eq + Clone + Drop, V: Drop, R: Wait, S: BuildHasher, F: Fit<K, V>
         self.len() == 0
     }
 
-    /// Returns whether the key has an entry. Looks under the lock of the shard, gives the entry no
-    /// chance, and takes no memory.
+    /// Returns whether the key has an entry. Takes the lock of the shard, does not count as a use
+    /// of the entry, and takes no memory.
     pub fn contains(&self, key: &K) -> bool {
         let (shard, tag) = self.route(key);
         shard.contains(&self.rt, tag, key)
     }
 
-    /// Returns the sum of the shards' counts, read one after another, so it is no snapshot. Takes
-    /// no memory.
+    /// Returns the sum of the shards' counts, read one after another, so it is not a snapshot.
+    /// Takes no memory.
     pub fn counts(&self) -> Counts {
         let mut counts = Counts::default();
         for shard in &self.shards {
@@ -516,8 +516,8 @@ impl<K: Hash + Eq + Clone + Drop, V: Drop, R: Wait, S: BuildHasher, F: Fit<K, V>
         counts
     }
 
-    /// Resets the counts, one shard after another, and returns the sum of what they were. What a
-    /// call adds to the counts is returned by exactly one reset. Takes no memory.
+    /// Resets the counts, one shard after another, and returns the sum of what they were. Whatever
+    /// a call adds to the counts is returned by exactly one reset. Takes no memory.
     pub fn reset_counts(&self) -> Counts {
         let mut counts = Counts::default();
         for shard in &self.shards {
@@ -528,7 +528,7 @@ impl<K: Hash + Eq + Clone + Drop, V: Drop, R: Wait, S: BuildHasher, F: Fit<K, V>
 }
 
 // Chooses the shard of a key by the low half of its hash, and returns it with the high half, which
-// is the tag. For a power of two that is named here the compiler divides with a mask.
+// is the tag. The compiler turns a remainder by a constant power of two into a mask.
 #[inline(always)]
 fn choose_shard<'a, K: Hash + Eq + Clone, V, S: BuildHasher, F: Fit<K, V>>(
     hasher: &S,
@@ -549,7 +549,7 @@ fn choose_shard<'a, K: Hash + Eq + Clone, V, S: BuildHasher, F: Fit<K, V>>(
     (&shards[at as usize], (hash >> 32) as u32)
 }
 
-// Converts a refusal of a call that takes no stamp.
+// Converts a refusal by a call that takes no stamp, and so never returns `Stale`.
 fn error_of<E>(refusal: Refusal) -> GetError<E>
     requires { refusal ≢ Refusal.Stale }
     ensures not_init { IsNotInit result }
@@ -562,7 +562,7 @@ fn error_of<E>(refusal: Refusal) -> GetError<E>
     }
 }
 
-// Prints the numbers of the cache, which are no snapshot.
+// Prints numbers of the cache, which are not a snapshot.
 impl<K: Hash + Eq + Clone + Drop, V: Drop, R: Wait, S: BuildHasher, F: Fit<K, V>> fmt::Debug
     for Cache<K, V, R, S, F> {
     fn fmt<W: fmt::Write>(&self, f: &mut fmt::Formatter<W>) -> fmt::Result {

@@ -1,6 +1,6 @@
 //! Handles, each of which pins the value that it reads.
 //!
-//! Neither reading nor dropping one acquires a lock, except as `Drop` says.
+//! Reading a handle acquires no lock. Dropping one seldom does: see its `Drop`.
 ghost use Rattle.std.specs.Prelude.{◌≡◌};
 
 use crate::shard::Shard;
@@ -16,11 +16,11 @@ use std::sync::Wait;
 /// A pinned value: its entry is neither freed nor evicted while the handle exists. A handle that is
 /// forgotten keeps its pin forever.
 ///
-/// It may be sent to other threads and shared with them, if keys, values, the mark and the right to
-/// wait may.
+/// A handle may be sent to other threads and shared with them if keys, values, the mark and the
+/// right to wait may be.
 ///
-/// Clauses see the key and the charge that were asked for (`get` has no charge), and the value,
-/// which fits that key by the mark `F`.
+/// Clauses see the key and the charge that the caller asked for (`get` asks for no charge), and the
+/// value, which fits that key by the mark `F`.
 pub struct CacheHandle<'a, K: Hash + Eq + Clone, V, R: Wait, F: Fit<K, V> = Anything> {
     rt: &'a R,
     shard: &'a Shard<K, V, F>,
@@ -38,7 +38,7 @@ impl<'a, K: Hash + Eq + Clone, V, R: Wait, F: Fit<K, V>> Model for CacheHandle<'
 }
 
 impl<'a, K: Hash + Eq + Clone, V, R: Wait, F: Fit<K, V>> CacheHandle<'a, K, V, R, F> {
-    // Creates a handle of a pin, with the shard and the place where it was acquired.
+    // Creates a handle from a pin, and the shard and place of its entry.
     #[inline(always)]
     pub(crate) fn new(
         rt: &'a R,
@@ -84,7 +84,7 @@ impl<'a, K: Hash + Eq + Clone, V, R: Wait, F: Fit<K, V>> Deref for CacheHandle<'
     }
 }
 
-// Prints as the value does.
+// Prints what the value prints.
 impl<'a, K: Hash + Eq + Clone, V: fmt::Debug, R: Wait, F: Fit<K, V>> fmt::Debug
     for CacheHandle<'a, K, V, R, F> {
     ghost debug_output = { λ h. V.debug_output h.value };
@@ -94,9 +94,9 @@ impl<'a, K: Hash + Eq + Clone, V: fmt::Debug, R: Wait, F: Fit<K, V>> fmt::Debug
     }
 }
 
-// Releases the pin without a lock. The last release of an invalidated entry takes it out under the
-// lock. The last release of another entry, if the total is above the capacity, evicts down to it if
-// the lock is free.
+// Releases the pin without a lock. If that was the last pin of an invalidated entry, removes the
+// entry under the lock. If it was the last pin of any other entry and the total is above the
+// capacity, evicts down to the capacity, unless another caller has the lock.
 impl<K: Hash + Eq + Clone + Drop, V: Drop, R: Wait, F: Fit<K, V>> Drop
     for CacheHandle<'_, K, V, R, F> {
     #[inline(always)]

@@ -1,14 +1,14 @@
-//! The history of a shard: which entries came to which slots, and when they left. It exists in
-//! proofs alone.
+//! The history of a shard: which entries came to which slots, and when they left. It exists only in
+//! proofs.
 //!
-//! At run time it leaves only numbers. Each slot has a counter, which every event of the slot
+//! At run time only counters remain of it. Each slot has a counter, which every event of the slot
 //! raises. The kit's `logbook` ties the counters of a shard to one history: whoever loads a counter
-//! knows a prefix of the history in which the counter has this value.
+//! learns a prefix of the history after which the counter has that value.
 //!
-//! The shard has one counter more, from which each entry that comes draws a number greater than all
-//! before, to which the counter of its slot is then raised. So this number answers two questions.
-//! As long as the counter of the slot has it, the entry is still there. And an entry came after
-//! some moment if its number is greater than what the shard's counter was at that moment.
+//! The shard has another counter, from which each new entry draws a number greater than all earlier
+//! ones. The counter of the entry's slot is then raised to that number, which therefore answers two
+//! questions. The entry is still in its slot as long as the slot's counter equals the number. And
+//! the entry came after some moment if the number is greater than the shard's counter was then.
 ghost use Rattle.std.specs.Prelude.{◌≡◌, ◌+◌, ◌<◌, ◌≤◌, ◌++◌, ◌∷◌, [], List, true};
 ghost use Rattle.std.specs.Prelude.{IfSome, IsTrue};
 ghost use mathlib.Core.List.{IsPrefix};
@@ -24,27 +24,29 @@ use crossbeam_utils::CachePadded;
 use logbook::{Gain, Offer, Plain, Play, Rule, Seen, Start, Word};
 use std::marker::Model;
 
-// No counter goes further. A billion entries a second would take 70 years to get there.
+// No counter is raised once it has reached this. At a billion entries a second that takes 70 years.
 const MOST_NUMBERS: u64 = 0x4000_0000_0000_0000;
 
-/// An entry, as the history has it. Only clauses see one.
+/// An entry, as the history records it. It exists only in clauses.
 pub struct Entry<K, V> {
     pub key: K,
     pub value: V,
 }
 
-/// An event of a slot: an entry comes to it, or it has no entry from then on. Only clauses see one.
+/// An event of a slot: an entry comes to the slot, or leaves it. It exists only in clauses.
 pub struct Event<K, V> {
     pub place: u64,
     /// How many values the slot's counter skips.
     pub skipped: u64,
+    /// The entry that comes, or `None` if the slot has no entry after the event.
     pub entry: Option<Entry<K, V>>,
 }
 
-/// The rule that a history keeps.
-pub struct Law;
+/// The rule of a history: the counter of each slot has the value to which the slot's events have
+/// raised it.
+pub struct CountersMatchEvents;
 
-impl<K, V> Rule<Event<K, V>, u64> for Law {
+impl<K, V> Rule<Event<K, V>, u64> for CountersMatchEvents {
     ghost use Rattle.std.specs.Prelude.{[], ◌∷◌, None};
     ghost use base.Fml.{ftrue};
     ghost use Rattle.lru_clock.specs.History.{event};
@@ -63,22 +65,23 @@ impl<K, V> Rule<Event<K, V>, u64> for Law {
     ghost moves = { λ ask before after answer. Unit {0} };
 }
 
-/// No caller gains anything by a step, but to know more of the history.
-struct Nothing;
+/// A step gives its caller nothing but a longer prefix of the history.
+struct GainsNothing;
 
-impl<K, V> Gain<Event<K, V>, u64> for Nothing {
+impl<K, V> Gain<Event<K, V>, u64> for GainsNothing {
     ghost use base.Fml.{ftrue};
 
     ghost after = { λ names about answer. ftrue };
 }
 
-/// A prefix of a history, which was seen.
-pub type Log<K, V> = Seen<Event<K, V>, u64, Law>;
+/// A prefix of a history, as a caller has seen it.
+pub type Log<K, V> = Seen<Event<K, V>, u64, CountersMatchEvents>;
 
 /// A counter.
-pub type Count<K, V> = Word<Event<K, V>, u64, Law>;
+pub type Count<K, V> = Word<Event<K, V>, u64, CountersMatchEvents>;
 
-type Ask<K, V> = Offer<Event<K, V>, u64, Law, Nothing>;
+// What a step is asked to do.
+type Ask<K, V> = Offer<Event<K, V>, u64, CountersMatchEvents, GainsNothing>;
 
 /// A step that reads a counter.
 struct Look;
@@ -107,7 +110,7 @@ impl<K, V> Play<Event<K, V>, u64> for Widen {
     ghost then = { Widens };
 }
 
-/// A step that adds the first event of a slot, from which on the history has its counter.
+/// A step that adds the first event of a slot. From then on the history knows the slot's counter.
 struct Begin;
 
 impl<K, V> Play<Event<K, V>, u64> for Begin {
@@ -116,10 +119,10 @@ impl<K, V> Play<Event<K, V>, u64> for Begin {
     ghost then = { Begins };
 }
 
-/// The slot of this counter has no entry from now on.
-struct Leaves;
+/// Asks for the event that the entry leaves the slot of this counter.
+struct EntryLeaves;
 
-impl<K, V> Plain<Count<K, V>, Event<K, V>, u64> for Leaves {
+impl<K, V> Plain<Count<K, V>, Event<K, V>, u64> for EntryLeaves {
     ghost use Rattle.std.specs.Prelude.{None};
     ghost use Rattle.lru_clock.specs.History.{event};
 
@@ -128,11 +131,11 @@ impl<K, V> Plain<Count<K, V>, Event<K, V>, u64> for Leaves {
     ghost state = { λ word. None };
 }
 
-/// A number is drawn, two greater than the last one: when the entry that has that one leaves, it
-/// raises the counter of its slot by one.
-struct Draws;
+/// Asks for the event that a number is drawn. It is two greater than the last one, since the entry
+/// with the last one raises the counter of its slot by one when it leaves.
+struct NumberIsDrawn;
 
-impl<K, V> Plain<Count<K, V>, Event<K, V>, u64> for Draws {
+impl<K, V> Plain<Count<K, V>, Event<K, V>, u64> for NumberIsDrawn {
     ghost use Rattle.std.specs.Prelude.{None};
     ghost use Rattle.lru_clock.specs.History.{event};
 
@@ -141,7 +144,7 @@ impl<K, V> Plain<Count<K, V>, Event<K, V>, u64> for Draws {
     ghost state = { λ word. None };
 }
 
-/// An entry that comes to a slot, whose counter skips so many values.
+/// An entry that comes to a slot, and how many values the slot's counter skips.
 #[derive(Drop)]
 struct Coming<K, V> {
     word: Shown<Count<K, V>>,
@@ -150,10 +153,10 @@ struct Coming<K, V> {
     value: Shown<V>,
 }
 
-/// The entry comes.
-struct Comes;
+/// Asks for the event that the entry comes to the slot.
+struct EntryComes;
 
-impl<K, V> Plain<Coming<K, V>, Event<K, V>, u64> for Comes {
+impl<K, V> Plain<Coming<K, V>, Event<K, V>, u64> for EntryComes {
     ghost use Rattle.std.specs.Prelude.{None, Some};
     ghost use Rattle.lru_clock.specs.History.{event, entry};
 
@@ -163,18 +166,19 @@ impl<K, V> Plain<Coming<K, V>, Event<K, V>, u64> for Comes {
     ghost state = { λ x. None };
 }
 
-/// A caller's record of what it has seen of a key's shard, by which it finds nothing again that it
-/// has invalidated.
+/// A caller's record of what it has seen of a key's shard, with which it finds nothing again that
+/// it has invalidated.
 ///
 /// After an `invalidate_since` with a past, `find_since` with that past returns only entries that
-/// came after the call, whatever other callers do, and so none that was found with it before.
+/// were stored after the call, whatever other callers do, and so none that was found with it
+/// before.
 ///
-/// Clauses see two prefixes of the shard's history: what the caller has seen (`seen`), and after
-/// which point entries must have come for it to find them (`since`). The `book` says whose history
-/// it is. At run time a past is one number.
+/// Clauses see two prefixes of the shard's history: what the caller has seen (`seen`), and the
+/// prefix after which an entry must have been stored for the caller to find it (`since`). The
+/// `book` says whose history it is. At run time a past is one number.
 #[derive(Drop)]
 pub struct Past<K, V> {
-    // At least as great as any that was drawn in `since`.
+    // At least as great as each number that was drawn in `since`.
     number: u64,
     since: Log<K, V>,
     seen: Log<K, V>,
@@ -206,7 +210,7 @@ impl<K, V> Past<K, V> {
         }
     }
 
-    /// Returns a copy, if there is a past.
+    /// Returns a copy of the past, if there is one.
     #[inline(always)]
     pub(crate) fn copied(past: &Option<Self>) -> Option<Self>
         ensures { result ≡ past.now }
@@ -225,7 +229,7 @@ impl<K, V> Past<K, V> {
         self.seen.again()
     }
 
-    /// Returns a past with the same `since`, for which more was seen.
+    /// Returns a past with the same `since` that has seen more.
     #[inline(always)]
     pub(crate) fn after(&self, seen: Log<K, V>) -> Self
         requires book { seen.book ≡ self.now.book }
@@ -241,8 +245,8 @@ impl<K, V> Past<K, V> {
         }
     }
 
-    /// Returns what has then been seen, if the entry of this arrival came after `since` and is
-    /// still in its slot.
+    /// Returns a longer prefix of the history, if the entry of this arrival came after `since` and
+    /// is still in its slot at the end of the prefix.
     #[inline(always)]
     pub(crate) fn find(&self, track: &Track<K, V>, arrival: &Arrival<K, V>) -> Option<Log<K, V>>
         requires book { self.now.book ≡ track.now.word.book }
@@ -257,14 +261,15 @@ impl<K, V> Past<K, V> {
         if number != arrival.number || arrival.number <= self.number {
             return None;
         }
+        // Has no effect at run time: it proves that both are prefixes of one history.
         let mut both = seen.again();
         both.learn(&arrival.log);
         Some(seen)
     }
 }
 
-/// How an entry came to its slot: the number that it had drawn, and the prefix of the history that
-/// ends with its coming.
+/// How an entry came to its slot: the number that was drawn for it, and the prefix of the history
+/// that ends when it came.
 #[derive(Drop)]
 pub struct Arrival<K, V> {
     number: u64,
@@ -311,18 +316,19 @@ impl<K, V> Arrival<K, V> {
         ensures { IsTrue result → (w : Named) (e d : Entry_ K V)
             → Arrives w self.now e → Arrives w other.now d → e ≡ d }
     {
+        // Has no effect at run time: it proves that both are prefixes of one history.
         let mut both = self.log.again();
         both.learn(&other.log);
         self.number == other.number
     }
 }
 
-/// A history, the word by which slots are added to it, and the counter from which entries draw
-/// their numbers.
+/// A history, the word by which slots are added to it, and the counter from which the numbers of
+/// entries are drawn.
 #[derive(Drop)]
 pub struct Chronicle<K, V> {
     head: Count<K, V>,
-    // Each entry that comes writes it, while hits read what would lie beside it.
+    // On a cache line of its own: each new entry writes it, and hits read the other fields.
     numbers: CachePadded<Track<K, V>>,
     pub first: Log<K, V>,
     ghost head_is: { head ≡ named 0 first.book },
@@ -331,7 +337,7 @@ pub struct Chronicle<K, V> {
 }
 
 impl<K, V> Chronicle<K, V> {
-    /// Opens a history without slots.
+    /// Creates a history without slots.
     pub fn new() -> Self {
         let (first, mut head, mut numbers) = Seen::open(Start::alone(), 0, 1);
         Chronicle {
@@ -344,7 +350,7 @@ impl<K, V> Chronicle<K, V> {
         }
     }
 
-    /// Returns a past for which nothing was seen, and after which every entry came.
+    /// Returns a past that has seen nothing, so that every entry is stored after it.
     #[inline(always)]
     pub fn past(&self) -> Past<K, V>
         ensures book { result.book ≡ self.now.first.book }
@@ -356,9 +362,9 @@ impl<K, V> Chronicle<K, V> {
         }
     }
 
-    /// Draws a number, and returns it with what has then been seen.
+    /// Draws a number, and returns it with a prefix of the history in which it is drawn.
     ///
-    /// Returns `None` if another caller draws one at the same time, or if no number is left.
+    /// Returns `None` if another caller draws a number at the same time, or if no number is left.
     pub fn draw(&self) -> Option<(u64, Log<K, V>)>
         ensures book { IfSome result (λ drawn. drawn.1.book ≡ self.now.first.book) }
         ensures drawn { IfSome result (λ drawn. drawn.0 ≤ turns 1 drawn.1.log) }
@@ -366,8 +372,8 @@ impl<K, V> Chronicle<K, V> {
         self.numbers.draw(&self.first)
     }
 
-    /// Returns a past whose `since` is the history up to this call, with all that this one has
-    /// seen.
+    /// Returns a past whose `since` is the history up to this call, and so extends all that the
+    /// given past has seen.
     pub fn renew(&self, past: &Past<K, V>) -> Past<K, V>
         requires book { past.now.book ≡ self.now.first.book }
         ensures book { result.book ≡ past.now.book }
@@ -382,24 +388,24 @@ impl<K, V> Chronicle<K, V> {
         }
     }
 
-    /// Adds a slot without an entry, and returns its track.
+    /// Adds a slot without an entry to the history, and returns its track.
     pub fn begin(&self) -> Track<K, V>
         ensures book { result.word.book ≡ self.now.first.book }
     {
         let mut seen = self.first.again();
         let mut pen = seen.no_pen();
-        let mut ask: Ask<K, V> = seen.plain::<Nothing, Count<K, V>, Leaves>(&self.head);
+        let mut ask: Ask<K, V> = seen.plain::<GainsNothing, Count<K, V>, EntryLeaves>(&self.head);
         self.head
-            .compare_exchange::<Widen, Nothing>(0, 0, &mut seen, &mut ask, &mut pen);
+            .compare_exchange::<Widen, GainsNothing>(0, 0, &mut seen, &mut ask, &mut pen);
         let word = Word::tracked(1, &mut pen);
-        let mut ask: Ask<K, V> = seen.plain::<Nothing, Count<K, V>, Leaves>(&word);
+        let mut ask: Ask<K, V> = seen.plain::<GainsNothing, Count<K, V>, EntryLeaves>(&word);
         self.head
-            .compare_exchange::<Begin, Nothing>(0, 0, &mut seen, &mut ask, &mut pen);
+            .compare_exchange::<Begin, GainsNothing>(0, 0, &mut seen, &mut ask, &mut pen);
         Track { word, begun: seen }
     }
 }
 
-/// The counter of a slot, with a prefix of the history that has an event of the slot.
+/// The counter of a slot, with a prefix of the history that has the slot's first event.
 #[derive(Drop)]
 pub struct Track<K, V> {
     pub word: Count<K, V>,
@@ -410,7 +416,7 @@ pub struct Track<K, V> {
 }
 
 impl<K, V> Track<K, V> {
-    /// Reads the counter, and returns its value with what has then been seen.
+    /// Reads the counter, and returns its value with a prefix of the history after which it has it.
     #[inline(always)]
     pub fn look(&self, past: &Log<K, V>) -> (u64, Log<K, V>)
         requires book { past.now.book ≡ self.now.word.book }
@@ -421,12 +427,12 @@ impl<K, V> Track<K, V> {
     {
         let mut seen = past.again();
         seen.learn(&self.begun);
-        let mut ask: Ask<K, V> = seen.plain::<Nothing, Count<K, V>, Leaves>(&self.word);
-        let found = self.word.load::<Look, Nothing>(&mut seen, &mut ask);
+        let mut ask: Ask<K, V> = seen.plain::<GainsNothing, Count<K, V>, EntryLeaves>(&self.word);
+        let found = self.word.load::<Look, GainsNothing>(&mut seen, &mut ask);
         (found, seen)
     }
 
-    // Draws a number.
+    // Draws a number from this counter.
     fn draw(&self, past: &Log<K, V>) -> Option<(u64, Log<K, V>)>
         requires book { past.now.book ≡ self.now.word.book }
         ensures book { IfSome result (λ drawn. drawn.1.book ≡ past.now.book) }
@@ -436,7 +442,7 @@ impl<K, V> Track<K, V> {
         if last >= MOST_NUMBERS {
             return None;
         }
-        let ask = seen.plain::<Nothing, Count<K, V>, Draws>(&self.word);
+        let ask = seen.plain::<GainsNothing, Count<K, V>, NumberIsDrawn>(&self.word);
         if self.add(last, last + 2, ask, &mut seen) {
             Some((last + 2, seen))
         } else {
@@ -444,10 +450,10 @@ impl<K, V> Track<K, V> {
         }
     }
 
-    /// An entry comes to the slot, with a number that was drawn in what was seen.
+    /// Records that an entry comes to the slot, with a number that was drawn in `seen`.
     ///
-    /// Returns `None` if the counter has reached the number, or if another caller changes it at the
-    /// same time.
+    /// Returns `None` if the counter has already reached the number, or if another caller changes
+    /// it at the same time.
     pub fn come(&self, number: u64, seen: &Log<K, V>, key: &K, value: &V) -> Option<Arrival<K, V>>
         requires book { seen.now.book ≡ self.now.word.book }
         requires drawn { number ≤ turns 1 seen.now.log }
@@ -464,7 +470,7 @@ impl<K, V> Track<K, V> {
             key: Shown::of(key),
             value: Shown::of(value),
         };
-        let ask = log.plain::<Nothing, Coming<K, V>, Comes>(&coming);
+        let ask = log.plain::<GainsNothing, Coming<K, V>, EntryComes>(&coming);
         if self.add(last, number, ask, &mut log) {
             Some(Arrival { number, log })
         } else {
@@ -472,18 +478,18 @@ impl<K, V> Track<K, V> {
         }
     }
 
-    /// The slot has no entry from now on, unless another caller changes its counter at the same
-    /// time.
+    /// Records that the slot has no entry from now on, unless another caller changes the counter at
+    /// the same time.
     pub fn leave(&self) {
         let (last, mut seen) = self.look(&self.begun);
         if last < MOST_NUMBERS {
-            let ask = seen.plain::<Nothing, Count<K, V>, Leaves>(&self.word);
+            let ask = seen.plain::<GainsNothing, Count<K, V>, EntryLeaves>(&self.word);
             self.add(last, last + 1, ask, &mut seen);
         }
     }
 
-    // Adds the event that is asked for, by which the counter goes from `last` to `next`. Returns
-    // `false` if the counter has another value by then.
+    // Adds the event that is asked for, which raises the counter from `last` to `next`. Returns
+    // `false` and adds nothing if the counter is no longer `last`.
     #[inline(always)]
     fn add(&self, last: u64, next: u64, ask: Ask<K, V>, seen: &mut Log<K, V>) -> bool
         requires book { seen.old.book ≡ self.now.word.book }
@@ -500,7 +506,7 @@ impl<K, V> Track<K, V> {
         let mut pen = seen.no_pen();
         let found = self
             .word
-            .compare_exchange::<Add, Nothing>(last, next, seen, &mut ask, &mut pen);
+            .compare_exchange::<Add, GainsNothing>(last, next, seen, &mut ask, &mut pen);
         found == last
     }
 }

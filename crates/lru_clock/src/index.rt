@@ -1,10 +1,10 @@
 //! The index of a shard, from the hashes of keys to the places of their slots: words that are read
 //! without the lock and written under it.
 //!
-//! A word is 0, or has one more than a place in its high half and the tag of a hash in its low
-//! half. A tag's words are found by linear probing. Without the lock a word is a hint: the reader
-//! pins the slot and compares the key, and a reader that finds nothing asks again under the lock.
-//! Whoever holds the lock has the `Words`, and knows what each of them is.
+//! A word is 0, or has a place plus one in its high half and the tag of a hash in its low half. The
+//! words of a tag are found by linear probing. Without the lock a word is only a hint: the reader
+//! pins the slot and compares the key, and a reader that finds nothing looks again under the lock.
+//! The holder of the lock has the `Words`, and knows each of them.
 ghost use Rattle.std.specs.Prelude.{◌≡◌, ◌+◌, ◌*◌, ◌/◌, ◌%◌, ◌<◌};
 ghost use Rattle.lru_clock.specs.Index.{word_of as word_for};
 
@@ -12,23 +12,23 @@ mod probing;
 mod words;
 
 pub use crate::index::words::Words;
-use crate::index::words::{Known, Written};
+use crate::index::words::{HolderKnowsWords, KnownWords};
 use atomic_table::Table;
 use std::alloc::Global;
 
-// What one place adds to a word.
+// By how much the words of successive places differ.
 const ONE_PLACE: u64 = 0x1_0000_0000;
 
 /// A table of words.
 #[derive(Drop)]
 pub struct Index {
-    table: Table<(), Known, Vec<u64>, Written, Global>,
+    table: Table<(), KnownWords, Vec<u64>, HolderKnowsWords, Global>,
     // One less than the number of words, which is a power of two.
     mask: usize,
     ghost size: { mask + 1 ≡ table.shared.table_id.words },
 }
 
-/// Where the words of a tag may be.
+/// A search for the words of a tag: the tag, and the position to look at next.
 #[derive(Clone, Copy)]
 pub struct Probe {
     at: usize,
@@ -49,7 +49,7 @@ pub fn tag_of(word: u64) -> u32
     (word % ONE_PLACE) as u32
 }
 
-// Returns one more than the place that a word leads to.
+// Returns the place that a word leads to, plus one.
 pub fn past_place(word: u64) -> u32
     ensures { result ≡ word / 4294967296 }
 {
@@ -66,7 +66,7 @@ impl Index {
         }
     }
 
-    /// Returns the next place of the probe's tag.
+    /// Returns the next place that a word of the probe's tag leads to, or `None` if there is none.
     #[inline(always)]
     pub fn next(&self, probe: &mut Probe) -> Option<u32> {
         for _ in 0..self.table.word_count() {

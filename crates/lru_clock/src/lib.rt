@@ -1,15 +1,16 @@
-//! A cache of values that threads share, whose hits and whose drops of handles take no lock.
+//! A cache for threads in which neither a hit nor the drop of a handle takes a lock.
 //!
-//! A hit adds a pin to the word of its entry's slot in one compare-exchange, and the drop of its
-//! handle takes the pin back in one subtraction. Entries that nobody holds are evicted by the hand
-//! of a clock, which passes those that were used since it last came by. Misses, insertions and
-//! evictions take the lock of a shard.
+//! A hit adds a pin to the word of its entry's slot in one compare-exchange, and dropping its
+//! handle removes the pin in one subtraction. Entries that nobody has pinned are evicted as by the
+//! CLOCK algorithm: a hand moves from slot to slot, and spares entries that were used since it last
+//! passed them. Misses, insertions and evictions take the lock of a shard.
 //!
-//! A caller that keeps a `Past` is proved to find no entry again that it found before its own
-//! invalidation, since a history of each shard, which exists in proofs, tells when entries came.
+//! A caller that keeps a `Past` never finds an entry again that it found before it invalidated the
+//! key. That is proved by a history of each shard, which exists only in proofs and records when
+//! each entry was stored.
 //!
-//! It stands beside the caches of `concurrent_lru`, whose order of eviction is exact, and has their
-//! calls, their marks and their errors.
+//! The caches of `concurrent_lru` evict in exact LRU order. This one has the same calls, marks and
+//! errors.
 #![tactic(auto)]
 
 pub mod clock;

@@ -5,15 +5,15 @@ ghost use Rattle.std.specs.List.{list_any};
 use std::alloc::{AllocError, Global};
 use std::marker::Model;
 
-// A key whose value is being made, under a ticket that no other making has had.
+// A key whose value is being made, and a ticket that no other making has had.
 #[derive(Drop)]
 struct Making<K> {
     key: K,
     ticket: u64,
 }
 
-/// The keys whose values are being made, each by one caller, and how many callers wait for one of
-/// them. Clauses see the list of the keys, of which no two are equal.
+/// The keys whose values are being made, each by one caller, and the number of callers that wait
+/// for any of them. Clauses see the list of the keys, no two of which are equal.
 #[derive(Drop)]
 pub struct Makings<K: Eq> {
     makings: Vec<Making<K>>,
@@ -56,7 +56,7 @@ impl<K: Eq + Drop> Makings<K> {
         false
     }
 
-    /// Begins the making of a key's value, which nobody makes yet, and returns its ticket.
+    /// Begins the making of a key's value, which nobody is making, and returns its ticket.
     ///
     /// Returns `AllocError` if the allocator refuses.
     pub fn begin(&mut self, key: K) -> Result<u64, AllocError>
@@ -79,8 +79,8 @@ impl<K: Eq + Drop> Makings<K> {
         self.remove(at)
     }
 
-    /// Invalidates the making of a key's value: callers that come from now on make another. Returns
-    /// the key that it had.
+    /// Invalidates the making of a key's value: later callers make another value. Returns the key
+    /// of the making.
     pub fn invalidate(&mut self, key: &K) -> Option<K> {
         let at = self.makings.iter().position(|making| making.key == *key)?;
         self.remove(at)
@@ -94,12 +94,12 @@ impl<K: Eq + Drop> Makings<K> {
         Some(key)
     }
 
-    /// One caller more waits.
+    /// Another caller waits.
     pub fn add_waiting(&mut self) {
         self.waiting = self.waiting.wrapping_add(1);
     }
 
-    /// A caller has waited.
+    /// A caller has stopped waiting.
     pub fn remove_waiting(&mut self) {
         self.waiting = self.waiting.wrapping_sub(1);
     }

@@ -1,8 +1,8 @@
-//! A claim of the kit to read a slot, which another thread may end.
+//! A claim to read a slot that may be sent to other threads.
 //!
-//! The kit's `Claim` has a raw pointer, so it is neither `Send` nor `Sync` by itself. But whoever
-//! ends it changes the word of its slot in one step, as any thread may, and reads a value that
-//! threads share.
+//! The kit's `Claim` has a raw pointer, so by itself it is neither `Send` nor `Sync`. But any
+//! thread may end a claim: that changes the word of its slot in one atomic step. And what a claim
+//! reads is a value that threads share.
 ghost use Rattle.std.specs.Prelude.{◌≡◌, Some};
 
 use counted_slot::{Claim, Fits};
@@ -28,7 +28,8 @@ impl<'a, X: Fits> Model for Sent<'a, X> {
 
     ghost invariant = { λ s. s.claim.right ≡ 1 };
 
-    // Nothing is owned beside the claim. With this, `Send` and `Sync` are proved here once.
+    // A `Sent` owns nothing besides its claim. Stating that lets `Send` and `Sync` be proved here,
+    // once.
     ghost also_owns = { λ _. ftrue };
 
     ghost also_shares = { λ _ _ _. ftrue };

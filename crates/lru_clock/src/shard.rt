@@ -1,8 +1,8 @@
-//! A shard: its slots and their index, and the lock of those who change them.
+//! A shard: its slots, their index, and the lock that callers hold while they change them.
 //!
-//! Each time that the lock is held, one entry leaves at the most, and it is dropped after the lock
-//! is released. So nothing is collected under the lock, and a call that evicts several entries
-//! takes the lock as many times.
+//! At most one entry is removed each time the lock is held, and it is dropped after the lock is
+//! released. So no list of removed entries is needed, and a call that evicts several entries takes
+//! the lock once for each of them.
 ghost use Rattle.std.specs.Prelude.{◌≡◌, ◌≢◌, ◌<◌, IfErr, IfOk, IfSome, None, true};
 ghost use Rattle.concurrent_lru.specs.Cache.{CopiesAreEqual};
 ghost use Rattle.lru_clock.specs.Seats.{seat};
@@ -32,43 +32,43 @@ pub struct Shard<K: Hash + Eq + Clone, V, F: Fit<K, V>> {
     most_pins: u64,
     // Whether the total was above the capacity when the lock was last released.
     is_above: AtomicBool,
-    // Whether a caller that wanted to evict found the lock taken, and left that to whoever has it.
+    // Whether a caller that wanted to evict found the lock taken, and left that to its holder.
     is_owed: AtomicBool,
     alloc: Global,
     state: CachePadded<Mutex<ShardState<K>>>,
-    // Wakes those who wait for a value that another caller makes.
+    // Wakes the callers that wait for a value that another caller is making.
     made: CachePadded<Condvar>,
     ghost within: { most_pins < 1073741823 },
     ghost copies: { CopiesAreEqual K.is_clone K.eq },
 }
 
-/// An entry that comes: its charge, the tag of its key's hash, its key and value, and a copy of its
-/// key, unless that was invalidated before it came.
+/// An entry that is to be stored, with the tag of its key's hash. It has a copy of its key for its
+/// seat, unless it is already invalidated.
 struct Coming<K: Eq, V, F: Fit<K, V>> {
     charge: u64,
     tag: u32,
     kept: Kept<K, V, F>,
-    own: Option<K>,
+    key_copy: Option<K>,
 }
 
-/// What is to be dropped after the lock is released.
+/// What must be dropped after the lock is released.
 #[derive(Drop)]
 struct Leftover<K: Eq, V, F: Fit<K, V>> {
     kept: Option<Kept<K, V, F>>,
-    own: Option<K>,
+    key_copy: Option<K>,
 }
 
 impl<K: Eq, V, F: Fit<K, V>> Leftover<K, V, F> {
-    fn of(kept: Option<Kept<K, V, F>>, own: Option<K>) -> Self {
-        Leftover { kept, own }
+    fn of(kept: Option<Kept<K, V, F>>, key_copy: Option<K>) -> Self {
+        Leftover { kept, key_copy }
     }
 }
 
-/// What a caller that found no entry is to do.
+/// What a caller that found no entry without the lock must do.
 pub enum Turn<'a, K: Eq, V, F: Fit<K, V>> {
     /// Make the value, under this ticket.
     Make(u64),
-    /// Nothing: the entry is there.
+    /// Nothing: the key has an entry, which was pinned.
     Hit(u32, Pin<'a, K, V, F>),
 }
 
@@ -101,7 +101,7 @@ impl<K: Hash + Eq + Clone + Drop, V: Drop, F: Fit<K, V>> Shard<K, V, F> {
         self.store.slot(place)
     }
 
-    /// Returns a past for which nothing was seen, and after which every entry came.
+    /// Returns a past that has seen nothing, so that every entry is stored after it.
     pub fn past(&self) -> Past<K, V>
         ensures book { result.book ≡ self.now.store.chronicle.first.book }
     {
@@ -115,17 +115,17 @@ impl<K: Hash + Eq + Clone + Drop, V: Drop, F: Fit<K, V>> Shard<K, V, F> {
         }
     }
 
-    // Releases the lock, drops the entry that left under it, and evicts what others left to this
-    // caller meanwhile.
+    // Releases the lock, drops the entry that was removed under it, and evicts the entries that
+    // other callers have meanwhile left to this one.
     fn unlock(&self, guard: MutexGuard<'_, ShardState<K>>, leaver: Leaver<K, V, F>) {
         if self.close(guard, leaver) {
             self.settle();
         }
     }
 
-    // Releases the lock, and then drops the entry that left under it. Returns whether more entries
-    // may have to leave: a handle that was dropped before `is_above` rose evicts nothing, and
-    // neither does one that found the lock taken.
+    // Releases the lock, and then drops the entry that was removed under it. Returns whether more
+    // entries may have to be evicted: a handle evicts nothing if it was dropped before `is_above`
+    // was set, or while another caller had the lock.
     fn close(&self, guard: MutexGuard<'_, ShardState<K>>, leaver: Leaver<K, V, F>) -> bool {
         let is_above = guard.is_above(0);
         let was_above = self.is_above.load(SeqCst);
@@ -139,7 +139,7 @@ impl<K: Hash + Eq + Clone + Drop, V: Drop, F: Fit<K, V>> Shard<K, V, F> {
         (is_above && !was_above) || self.is_owed.load(SeqCst)
     }
 
-    /// Evicts down to the capacity. If the lock is taken, leaves it to whoever has it.
+    /// Evicts down to the capacity. If another caller has the lock, leaves that to it.
     #[inline(never)]
     pub fn settle(&self) {
         for _ in 0..u64::MAX {
@@ -164,14 +164,14 @@ impl<K: Hash + Eq + Clone + Drop, V: Drop, F: Fit<K, V>> Shard<K, V, F> {
         }
     }
 
-    // Wakes the callers that wait for a making.
+    // Wakes the callers that wait for a value.
     fn wake(&self, state: &ShardState<K>) {
         if state.makings.has_waiting() {
             self.made.notify_all();
         }
     }
 
-    // Gives back the seat of an entry that was taken out.
+    // Vacates the seat of an entry that was taken out of its slot, and counts an eviction.
     fn vacate(&self, state: &mut ShardState<K>, taken: Taken<K, V, F>) -> Sealed<Left<K, V, F>>
         ensures { state.new.seats ≡ set state.old.seats taken.place (seat 0 0 None) }
     {
@@ -179,7 +179,7 @@ impl<K: Hash + Eq + Clone + Drop, V: Drop, F: Fit<K, V>> Shard<K, V, F> {
         state.seats.vacate(taken)
     }
 
-    // Evicts one entry if one charge more would take the total above the capacity.
+    // Evicts one entry if another charge would take the total above the capacity.
     fn make_room(&self, state: &mut ShardState<K>, charge: u64) -> Leaver<K, V, F> {
         if state.is_above(charge) {
             self.evict(state)
@@ -188,8 +188,8 @@ impl<K: Hash + Eq + Clone + Drop, V: Drop, F: Fit<K, V>> Shard<K, V, F> {
         }
     }
 
-    // Moves the hand of the clock until an entry leaves. After four rounds each entry that nobody
-    // has pinned or used has lost its chances and left.
+    // Moves the hand of the clock until it evicts an entry. In four rounds it takes the up to three
+    // chances of an entry that nobody pins or uses meanwhile, and then evicts the entry.
     fn evict(&self, state: &mut ShardState<K>) -> Leaver<K, V, F> {
         for _ in 0..state.seats.len().wrapping_mul(4) {
             let place = state.move_hand();
@@ -200,7 +200,7 @@ impl<K: Hash + Eq + Clone + Drop, V: Drop, F: Fit<K, V>> Shard<K, V, F> {
         None
     }
 
-    // Acquires the lock once there is room for a charge, or nothing more that can leave.
+    // Acquires the lock once there is room for a charge, or no entry left that can be evicted.
     fn lock_with_room<R: Wait>(
         &self,
         rt: &R,
@@ -217,8 +217,8 @@ impl<K: Hash + Eq + Clone + Drop, V: Drop, F: Fit<K, V>> Shard<K, V, F> {
         unreachable!()
     }
 
-    // Sees that an entry of this charge can be stored: that there is a vacant place, and that the
-    // sum of the charges stays within a `u64`.
+    // Checks that an entry of this charge can be stored: that the sum of the charges stays within a
+    // `u64`, and that there is a vacant place, which is added if there is none.
     fn admit(&self, state: &mut ShardState<K>, charge: u64) -> Result<(), Refusal>
         ensures { IfErr result (λ e. e ≢ Refusal.Stale) }
     {
@@ -231,10 +231,10 @@ impl<K: Hash + Eq + Clone + Drop, V: Drop, F: Fit<K, V>> Shard<K, V, F> {
         self.store.grow(self.alloc, &mut state.seats)
     }
 
-    // Stores an entry in a vacant place, and pins it without a chance. Without a copy of its key it
-    // was invalidated before it came, and only this caller gets it.
+    // Stores an entry in a vacant place, and pins it. It has no chance yet. An entry without a copy
+    // of its key is already invalidated, and only this caller gets it.
     //
-    // Returns what is to be dropped without the lock beside it, as the entry if it is refused.
+    // Also returns what to drop once the lock is released, such as an entry that was refused.
     fn put(
         &self,
         state: &mut ShardState<K>,
@@ -242,7 +242,7 @@ impl<K: Hash + Eq + Clone + Drop, V: Drop, F: Fit<K, V>> Shard<K, V, F> {
         coming: Coming<K, V, F>,
     ) -> (Result<(u32, Pin<'_, K, V, F>), Refusal>, Leftover<K, V, F>)
         requires fits { F.fits coming.kept.key coming.kept.value }
-        requires own { IfSome coming.own (λ own. K.eq own coming.kept.key ≡ true) }
+        requires copy { IfSome coming.key_copy (λ copy. K.eq copy coming.kept.key ≡ true) }
         ensures pin { IfOk result.0
             (λ found. (found.1.key ≡ key.now) × F.fits key.now found.1.value) }
         ensures value { IfOk result.0 (λ found. found.1.value ≡ coming.kept.value) }
@@ -252,22 +252,24 @@ impl<K: Hash + Eq + Clone + Drop, V: Drop, F: Fit<K, V>> Shard<K, V, F> {
             charge,
             tag,
             kept,
-            own,
+            key_copy,
         } = coming;
-        let is_listed = own.is_some();
-        let reservation = match self.reserve_seat(state, charge, tag, own) {
+        let is_listed = key_copy.is_some();
+        let reservation = match self.reserve_seat(state, charge, tag, key_copy) {
             Ok(reservation) => reservation,
-            Err((refusal, own)) => return (Err(refusal), Leftover::of(Some(kept), own)),
+            Err((refusal, key_copy)) => {
+                return (Err(refusal), Leftover::of(Some(kept), key_copy));
+            }
         };
         let (place, pin) = match self.store.fill(reservation, key, kept, !is_listed) {
             Ok(filled) => filled,
             Err((reservation, kept)) => {
-                let own = state.seats.cancel(reservation);
-                return (Err(Refusal::Overflow), Leftover::of(Some(kept), own));
+                let key_copy = state.seats.cancel(reservation);
+                return (Err(Refusal::Overflow), Leftover::of(Some(kept), key_copy));
             }
         };
-        // Always `Some`: under the lock nobody else takes it out, and nobody has pinned it so
-        // often.
+        // Always `Some`: nobody removes the entry without the lock, and it cannot have the maximum
+        // number of pins yet.
         let Some(pin) = pin else {
             return (Err(Refusal::Overflow), Leftover::of(None, None));
         };
@@ -277,7 +279,8 @@ impl<K: Hash + Eq + Clone + Drop, V: Drop, F: Fit<K, V>> Shard<K, V, F> {
         (Ok((place, pin)), Leftover::of(None, None))
     }
 
-    // Adds an entry to the index. If that has one of its key, the new one is invalidated.
+    // Adds an entry to the index. If the index has another entry of its key, invalidates the new
+    // one.
     fn list(&self, state: &mut ShardState<K>, place: u32) {
         if !state.seats.list(place) {
             if let Some(slot) = self.slot(place) {
@@ -288,23 +291,23 @@ impl<K: Hash + Eq + Clone + Drop, V: Drop, F: Fit<K, V>> Shard<K, V, F> {
 
     // Takes a vacant place for an entry, and counts its charge.
     //
-    // Returns the copy of its key with the refusal if there is none.
+    // Returns the copy of its key with the refusal if the entry cannot be stored.
     fn reserve_seat(
         &self,
         state: &mut ShardState<K>,
         charge: u64,
         tag: u32,
-        own: Option<K>,
+        key_copy: Option<K>,
     ) -> Result<Reservation<K>, (Refusal, Option<K>)>
-        ensures done { IfOk result (λ r. r.key.value ≡ own) }
+        ensures done { IfOk result (λ r. r.key.value ≡ key_copy) }
         ensures refused { IfErr result (λ e. e.0 ≢ Refusal.Stale) }
     {
         if let Err(refusal) = self.admit(state, charge) {
-            return Err((refusal, own));
+            return Err((refusal, key_copy));
         }
-        match state.seats.reserve(charge, tag, own) {
+        match state.seats.reserve(charge, tag, key_copy) {
             Ok(reservation) => Ok(reservation),
-            Err(own) => Err((Refusal::Overflow, own)),
+            Err(key_copy) => Err((Refusal::Overflow, key_copy)),
         }
     }
 }

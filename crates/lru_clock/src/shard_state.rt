@@ -1,4 +1,4 @@
-//! What lies under the lock of a shard.
+//! The state that the lock of a shard protects.
 ghost use Rattle.std.specs.Prelude.{◌≡◌, sum_by};
 
 use crate::makings::Makings;
@@ -7,18 +7,18 @@ use std::alloc::{AllocError, Global};
 use std::fmt;
 
 /// Counts of what calls did under the locks since the cache was created or the counts were last
-/// reset. A count that passes the maximum of a `u64` starts again at 0.
+/// reset. A count that passes `u64::MAX` starts again at 0.
 ///
-/// Hits are not counted: a count that all threads share would cost each hit what the lock costs.
+/// Hits are not counted: a counter that all threads write would cost a hit as much as a lock.
 #[derive(Clone, Copy, PartialEq, Eq, Debug, Default)]
 pub struct Counts {
     /// Values that loaders made and that were stored.
     pub makings: u64,
-    /// Loaders that failed, and made values that were refused.
+    /// Loaders that failed, and values that loaders made and the cache refused.
     pub failures: u64,
     /// Values that `insert` stored.
     pub insertions: u64,
-    /// Entries that left: evicted, or invalidated and no longer pinned.
+    /// Entries removed: evicted, or invalidated and no longer pinned.
     pub evictions: u64,
     /// Calls that waited for a value that another caller was making.
     pub waits: u64,
@@ -37,7 +37,7 @@ impl Counts {
     }
 }
 
-/// What a shard holds and has counted, as it was at one moment under its lock.
+/// The numbers of a shard at one moment under its lock.
 #[derive(Clone, Copy)]
 pub struct Numbers {
     /// The capacity.
@@ -50,14 +50,14 @@ pub struct Numbers {
     pub counts: Counts,
 }
 
-/// The state under the lock of a shard.
+/// The state that the lock of a shard protects.
 #[derive(Drop)]
 pub struct ShardState<K: Eq> {
     pub capacity: u64,
     pub seats: Seats<K>,
     pub makings: Makings<K>,
     pub counts: Counts,
-    // The place that the hand of the clock comes to next.
+    // The place that the hand of the clock passes next.
     hand: u32,
 }
 
@@ -75,7 +75,7 @@ impl<K: Eq + Drop> ShardState<K> {
         })
     }
 
-    /// Returns what the shard holds and has counted.
+    /// Returns the numbers of the shard.
     pub fn numbers(&self) -> Numbers
         ensures capacity { result.capacity ≡ self.now.capacity }
         ensures total { result.total ≡ sum_by (λ seat. seat.charge) self.now.seats }
@@ -89,8 +89,9 @@ impl<K: Eq + Drop> ShardState<K> {
         }
     }
 
-    /// Returns whether one charge more would take the total above the capacity, so that entries are
-    /// to leave. For a total that no `u64` holds none are, since the charge is refused.
+    /// Returns whether another charge would take the total above the capacity, so that entries must
+    /// be evicted. If the total would not fit a `u64`, nothing is evicted: the charge will be
+    /// refused.
     pub fn is_above(&self, charge: u64) -> bool {
         match self.seats.total().checked_add(charge) {
             Some(total) => total > self.capacity,
@@ -98,7 +99,7 @@ impl<K: Eq + Drop> ShardState<K> {
         }
     }
 
-    /// Moves the hand of the clock on by one place, and returns the place that it came from.
+    /// Moves the hand of the clock to the next place, and returns the place that it was at.
     pub fn move_hand(&mut self) -> u32 {
         let place = self.hand;
         let next = place.wrapping_add(1);

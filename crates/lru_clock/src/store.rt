@@ -1,10 +1,10 @@
 //! The slots of a shard and their index, which grow under the lock and are read without it.
 //!
-//! Slots lie in pages, and never move. The first eight pages have the same size, the next eight
-//! twice that, and so on. So only slots of the last page may never have had an entry, which is
-//! about a ninth of all slots in a large shard. A new index is twice as large as the one before it.
-//! The old ones stay as they were: a reader that still has one finds too little, and asks again
-//! under the lock.
+//! Slots are allocated in pages, and never move. The first eight pages have the same size, the next
+//! eight twice that, and so on. So only slots of the last page, about a ninth of all slots in a
+//! large shard, can be unused yet. A new index is twice as large as the one before it. The old ones
+//! stay as they were: a reader that still has one may miss an entry, and looks again under the
+//! lock.
 ghost use Rattle.std.specs.Prelude.{◌≡◌, ◌≢◌, ◌<◌, true, IfErr, IfOk, IfSome};
 ghost use Rattle.lru_clock.specs.Books.{EachOf, numbers};
 
@@ -30,26 +30,26 @@ use std::sync::{Arc, OnceLock};
 // The number of slots in each of the first eight pages.
 const FIRST_PAGE: usize = 64;
 
-// With so many pages, places still fit a `u32`.
+// With this many pages, every place fits a `u32`.
 const PAGES: usize = 184;
 
-// The most indexes that there can be.
+// The maximum number of indexes, since each is twice as large as the one before it.
 const LEVELS: usize = 26;
 
-/// The rule of a page: the tag of the page names the history of each of its slots.
-pub struct Told;
+/// The rule of a page: each of its slots belongs to the history that the tag of the page names.
+pub struct SlotsMatchTag;
 
-impl<K: Eq, V, F: Fit<K, V>> SlotRule<Vec<Slot<K, V, F>>> for Told {
+impl<K: Eq, V, F: Fit<K, V>> SlotRule<Vec<Slot<K, V, F>>> for SlotsMatchTag {
     ghost use Rattle.std.specs.Prelude.{◌≡◌};
     ghost use Rattle.lru_clock.specs.Books.{EachOf, numbers};
 
     ghost holds = { λ tag page. EachOf (λ slot. numbers slot.track.word.book ≡ tag) page.items };
 }
 
-// How a tag names a history.
-struct Named;
+// A tag names a history by the numbers of its book.
+struct BookNumbers;
 
-impl<K, V> Names<Log<K, V>> for Named {
+impl<K, V> Names<Log<K, V>> for BookNumbers {
     ghost use Rattle.lru_clock.specs.Books.{numbers};
 
     ghost numbers = { λ log. numbers log.book };
@@ -61,13 +61,13 @@ pub struct Store<K: Eq, V, F: Fit<K, V>> {
     // The number of the index in use.
     level: AtomicU64,
     indexes: Vec<OnceLock<Arc<Index>>>,
-    pages: Vec<OnceSlot<Vec<Slot<K, V, F>>, Told>>,
+    pages: Vec<OnceSlot<Vec<Slot<K, V, F>>, SlotsMatchTag>>,
     pub chronicle: Chronicle<K, V>,
-    ghost told: { EachOf (λ page. page.tag ≡ numbers chronicle.first.book) pages.items },
+    ghost tags: { EachOf (λ page. page.tag ≡ numbers chronicle.first.book) pages.items },
 }
 
 /// A debt: an entry that was taken out of its slot, and whose charge still counts. `Seats::vacate`
-/// takes it. So no charge counts whose entry has left.
+/// takes it. So no charge goes on counting after its entry was removed.
 pub struct Taken<K: Eq, V, F: Fit<K, V>> {
     place: u32,
     emptied: Emptied<K, V, F>,
@@ -84,25 +84,25 @@ impl<K: Eq, V, F: Fit<K, V>> Taken<K, V, F> {
     }
 }
 
-/// What an entry leaves: itself, and the copy of its key that its seat had.
+/// What remains of a removed entry: the entry itself, and the copy of its key that its seat had.
 #[derive(Drop)]
 pub struct Left<K: Eq, V, F: Fit<K, V>> {
     kept: Kept<K, V, F>,
-    own: Option<K>,
+    key_copy: Option<K>,
 }
 
 impl<K: Eq, V, F: Fit<K, V>> Left<K, V, F> {
-    fn of(emptied: Emptied<K, V, F>, own: Option<K>) -> Self {
+    fn of(emptied: Emptied<K, V, F>, key_copy: Option<K>) -> Self {
         let Emptied { kept } = emptied;
-        Left { kept, own }
+        Left { kept, key_copy }
     }
 }
 
-/// What an entry left, sealed until the lock is released, if one has left.
+/// The entry that was removed under the lock, if any, sealed until the lock is released.
 pub type Leaver<K, V, F> = Option<Sealed<Left<K, V, F>>>;
 
-// Returns the page of a place, and where it is in the page. After as many more slots as the first
-// eight pages have, each page of 2^k slots would begin at a multiple of 2^k, the 8th to the 15th.
+// Returns the page of a place, and its position in the page. Counted from 8 * FIRST_PAGE before the
+// first place, each page of 2^k slots begins at a multiple of 2^k, from 8 * 2^k to 15 * 2^k.
 #[inline(always)]
 fn page_of(place: u32) -> (usize, usize) {
     let past = place as u64 + 8 * FIRST_PAGE as u64;
@@ -140,15 +140,15 @@ fn new_page<K: Eq + Drop, V: Drop, F: Fit<K, V>>(
     Ok(slots)
 }
 
-// Creates room for pages, whose tag names a history.
+// Creates empty room for all pages, with the tag that names a history.
 fn new_pages<K: Eq + Drop, V: Drop, F: Fit<K, V>>(
     alloc: Global,
     log: &Log<K, V>,
-) -> Result<Vec<OnceSlot<Vec<Slot<K, V, F>>, Told>>, AllocError>
+) -> Result<Vec<OnceSlot<Vec<Slot<K, V, F>>, SlotsMatchTag>>, AllocError>
     ensures { IfOk result
         (λ pages. EachOf (λ page. page.tag ≡ numbers log.now.book) pages.items) }
 {
-    let tag = Tag::of::<Log<K, V>, Named>(log);
+    let tag = Tag::of::<Log<K, V>, BookNumbers>(log);
     let mut pages = Vec::with_capacity(alloc, PAGES)?;
     for _ in 0..PAGES {
         pages.push(OnceSlot::new(&tag))?;
@@ -177,7 +177,7 @@ impl<K: Eq + Drop, V: Drop, F: Fit<K, V>> Store<K, V, F> {
         Ok(store)
     }
 
-    /// Returns a past for which nothing was seen, and after which every entry came.
+    /// Returns a past that has seen nothing, so that every entry is stored after it.
     #[inline(always)]
     pub fn past(&self) -> Past<K, V>
         ensures book { result.book ≡ self.now.chronicle.first.book }
@@ -185,7 +185,7 @@ impl<K: Eq + Drop, V: Drop, F: Fit<K, V>> Store<K, V, F> {
         self.chronicle.past()
     }
 
-    /// Returns the slot of a place.
+    /// Returns the slot at a place.
     #[inline(always)]
     pub fn slot(&self, place: u32) -> Option<&Slot<K, V, F>>
         ensures book { IfSome result
@@ -196,10 +196,10 @@ impl<K: Eq + Drop, V: Drop, F: Fit<K, V>> Store<K, V, F> {
     }
 
     /// Stores an entry in the slot whose place was reserved for it, and returns the place and a
-    /// pin. Nobody else can pin an entry that was invalidated before it came.
+    /// pin. Nobody else can pin an entry that is invalidated before it is stored.
     ///
-    /// Returns the reservation and the entry if it cannot be stored, and no pin if it cannot be
-    /// pinned.
+    /// Returns the reservation and the entry if the entry cannot be stored, and no pin if it cannot
+    /// be pinned.
     pub fn fill(
         &self,
         reservation: Reservation<K>,
@@ -208,7 +208,7 @@ impl<K: Eq + Drop, V: Drop, F: Fit<K, V>> Store<K, V, F> {
         is_invalidated: bool,
     ) -> Result<(u32, Option<Pin<'_, K, V, F>>), (Reservation<K>, Kept<K, V, F>)>
         requires fits { F.fits kept.key kept.value }
-        requires own { IfSome reservation.key.value (λ own. K.eq own kept.key ≡ true) }
+        requires copy { IfSome reservation.key.value (λ copy. K.eq copy kept.key ≡ true) }
         ensures place { IfOk result (λ filled. filled.0 ≡ reservation.place) }
         ensures pin { IfOk result (λ filled. IfSome filled.1
             (λ p. (p.key ≡ key.now) × F.fits key.now p.value)) }
@@ -217,7 +217,7 @@ impl<K: Eq + Drop, V: Drop, F: Fit<K, V>> Store<K, V, F> {
         let Some(slot) = self.slot(reservation.place) else {
             return Err((reservation, kept));
         };
-        // Always `Some`, since nobody draws a number without the lock.
+        // Always `Some`, since nobody else draws a number without the lock.
         let Some((number, seen)) = self.chronicle.draw() else {
             return Err((reservation, kept));
         };
@@ -229,21 +229,21 @@ impl<K: Eq + Drop, V: Drop, F: Fit<K, V>> Store<K, V, F> {
         Ok((place, pin))
     }
 
-    /// The hand of the clock comes to a place, as `Slot::pass` says.
+    /// Lets the hand of the clock pass a place, as `Slot::pass` says.
     pub fn pass(&self, place: u32) -> Option<Taken<K, V, F>>
         ensures { IfSome result (λ taken. taken.place ≡ place) }
     {
         Taken::of(place, self.slot(place)?.pass())
     }
 
-    /// Takes out the entry of a place if nobody has pinned it, whatever its chances.
+    /// Takes out the entry at a place, whatever its chances, if nobody has pinned it.
     pub fn take_idle(&self, place: u32) -> Option<Taken<K, V, F>>
         ensures { IfSome result (λ taken. taken.place ≡ place) }
     {
         Taken::of(place, self.slot(place)?.take_idle())
     }
 
-    /// Takes out the entry of a place if it was invalidated and nobody has pinned it.
+    /// Takes out the entry at a place if it was invalidated and nobody has pinned it.
     pub fn take_invalidated(&self, place: u32) -> Option<Taken<K, V, F>>
         ensures { IfSome result (λ taken. taken.place ≡ place) }
     {
@@ -257,9 +257,10 @@ impl<K: Eq + Drop, V: Drop, F: Fit<K, V>> Store<K, V, F> {
         Some(&**index)
     }
 
-    // Has those who read the index without the lock read this one.
+    // Makes this the index that is read without the lock.
     fn publish(&self, index: Arc<Index>, level: u64) {
         if let Some(cell) = self.indexes.get(level as usize) {
+            // Always sets the cell: each level is published once.
             let _ = cell.try_set(index);
             self.level.store(level, SeqCst);
         }
@@ -267,8 +268,8 @@ impl<K: Eq + Drop, V: Drop, F: Fit<K, V>> Store<K, V, F> {
 
     /// Adds a slot, and a seat for it.
     ///
-    /// Returns `Memory` if the allocator refuses, and `Overflow` if a shard can have no more slots
-    /// (4,294,966,784). No entry changes.
+    /// Returns `Memory` if the allocator refuses, and `Overflow` if the shard has the maximum
+    /// number of slots, 4,294,966,784. No entry changes.
     pub fn grow(&self, alloc: Global, seats: &mut Seats<K>) -> Result<(), Refusal>
         ensures { IfErr result (λ e. e ≢ Refusal.Stale) }
     {
@@ -282,6 +283,7 @@ impl<K: Eq + Drop, V: Drop, F: Fit<K, V>> Store<K, V, F> {
         };
         if slots.get().is_none() {
             seats.make_room(page_len(page))?;
+            // Always sets the page, since nobody else adds one without the lock.
             let _ = slots.set_written(new_page(alloc, page, &self.chronicle)?);
         }
         if seats.add(place)? {

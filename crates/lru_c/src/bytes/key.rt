@@ -11,7 +11,7 @@ use std::hash::{Hash, Hasher};
 /// the same hash and the same bytes.
 #[derive(Clone, PartialEq, Eq, Drop)]
 pub struct Bytes {
-    /// The hash. It is compared first, as it mostly tells different keys apart.
+    /// The hash. It is compared first, since it differs for most keys that differ.
     pub hash: u64,
     /// The bytes.
     pub bytes: Vec<u8>,
@@ -29,8 +29,8 @@ impl Bytes {
     }
 }
 
-// The bytes were hashed by the caller, before it took its lock. The cache mixes this word with its
-// seed, as it does any other, so a poor hash makes look-ups slow and nothing else.
+// The caller hashed the bytes before it took its lock. The cache mixes this word with its seed, as
+// it does any other, so a poor hash only makes lookups slow.
 impl Hash for Bytes {
     ghost hash_input = { λ key. fed.u64 key.hash };
 

@@ -102,7 +102,7 @@ module _ {K : Type 0} (E : K → K → Bool) (seats : List (Seat K)) (words : Li
       ];
     }
 
-  -- the index has it no more
+  -- the index no longer has it
   module _ (listed : s.is_listed ≡ true) (news : List ℕ) (takes : TakesOut words news (word_of s.tag p)) where
     abbrev gone : Seat K
     gone = listed_as false s

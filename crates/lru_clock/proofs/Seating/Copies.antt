@@ -149,7 +149,7 @@ module _ {K : Type 0} where
   got_longer (x ∷ xs) ys zero u e = e
   got_longer (x ∷ xs) ys (suc q) u e = got_longer xs ys q u e
 
-  -- one seat more, whose entry the index does not have
+  -- another seat, whose entry the index does not have
   module _ (E : K → K → Bool) (seats : List (Seat K)) (words : List ℕ) (t : Seat K) (ix : IsIndex E seats words) (blank : t.is_listed ≡ false) (tag : t.tag < 4294967296) where
     was : (q : ℕ) (u : Seat K) → slice_get (seats ++ t ∷ []) q ≡ Some u → u.is_listed ≡ true → slice_get seats q ≡ Some u
     was q u at listed = elim (at_push seats t q u at) [

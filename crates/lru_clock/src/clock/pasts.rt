@@ -1,4 +1,4 @@
-//! The calls of a caller with a `Past`, which finds nothing from before its own invalidation.
+//! The calls that take a `Past`, with which a caller finds nothing from before its invalidations.
 ghost use Rattle.std.specs.Prelude.{◌≡◌, ◌≢◌, None, IfOk, IfErr, IfSome};
 ghost use mathlib.Core.List.{IsPrefix};
 ghost use Rattle.lru_clock.specs.Hits.{IsFresh};
@@ -28,11 +28,13 @@ impl<K: Hash + Eq + Clone + Drop, V: Drop, R: Wait, S: BuildHasher, F: Fit<K, V>
         shard.past()
     }
 
-    /// `find`, limited to entries that came after the last `invalidate_since` with this past.
+    /// `find`, limited to entries that were stored after the last `invalidate_since` with this
+    /// past.
     ///
-    /// So an entry that was found with it before that call is not found again. A hit extends what
-    /// the past has seen, at the end of which the entry is in the cache. A copy of a past starts
-    /// out with what the past had. Reads one word more than `find`.
+    /// So an entry that was found with this past before that call is not found again. A hit extends
+    /// the prefix of the history that the past has seen, and the entry is in the cache at the end
+    /// of that prefix. A copy of a past begins with what the past has seen by then. Reads one more
+    /// word than `find`.
     ///
     /// Returns `Overflow` as `get` does.
     #[inline(always)]
@@ -63,8 +65,8 @@ impl<K: Hash + Eq + Clone + Drop, V: Drop, R: Wait, S: BuildHasher, F: Fit<K, V>
         }
     }
 
-    /// `invalidate`, after which `find_since` with this past returns only entries that come later,
-    /// for every key of the shard.
+    /// `invalidate`, after which `find_since` with this past returns only entries that are stored
+    /// later, for every key of the shard.
     pub fn invalidate_since(&self, key: &K, past: &mut Past<K, V>)
         requires book { IsBookOf S.BuildHasher S.Hasher.Hasher K.hash_input self.now key.now
             past.old.book }

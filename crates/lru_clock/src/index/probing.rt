@@ -1,5 +1,4 @@
-//! Linear probing under the lock: a word lies at its home or after it, and no word between the two
-//! is 0.
+//! Linear probing under the lock: a word is at its home or after it, and no word in between is 0.
 ghost use Rattle.std.specs.Prelude.{◌≡◌, ◌≢◌, ℕ, ◌<◌, length, MatchOption};
 ghost use Rattle.concurrent_lru.specs.Probing.Cycle.{next_of as next_in};
 ghost use Rattle.concurrent_lru.specs.Probing.Probes.{mark_at, HasEmpty, IsFilledAt, IsReached};
@@ -34,7 +33,7 @@ impl Words {
         at
     }
 
-    // Moves back the words that follow a position that was emptied.
+    // Moves words back so that searches still reach all of them after a position was emptied.
     fn close_gap(&mut self, from: usize)
         requires from { from < length self.old }
         requires gap { IsGap (length self.old) self.old from from
@@ -51,7 +50,7 @@ impl Words {
         }
     }
 
-    // Empties a position, and moves back what follows it.
+    // Empties a position, and closes the gap.
     fn take_out(&mut self, at: usize)
         requires within { at < length self.old }
         requires filled { IsFilledAt self.old at }
@@ -64,7 +63,7 @@ impl Words {
         self.close_gap(at);
     }
 
-    // Returns the position of a word.
+    // Returns the position of a word, if the index has it.
     fn find(&mut self, word: u64) -> Option<usize>
         requires filled { word ≢ 0 }
         requires ends { HasEmpty self.old }
@@ -101,7 +100,7 @@ impl Words {
         }
     }
 
-    /// Returns the position at which a search for a word ends.
+    /// Returns the empty position at which a search for a word ends.
     pub fn find_empty(&mut self, word: u64) -> usize
         requires ends { HasEmpty self.old }
         ensures same { self.new ≡ self.old }

@@ -1,4 +1,4 @@
-//! The words of an index, as the holder of the lock of its shard knows them.
+//! The words of an index, as known to whoever holds the lock of its shard.
 ghost use Rattle.std.specs.Prelude.{◌≡◌, ◌<◌, length, replicate, slice_set, IfOk};
 ghost use Rattle.concurrent_lru.specs.Probing.Probes.{mark_at};
 ghost use Rattle.lru_clock.specs.Index.{IsSize};
@@ -10,16 +10,16 @@ use std::collections::LinkedList;
 use std::marker::Model;
 use std::sync::Arc;
 
-/// What is known of an index: its words. No value of it is made.
-pub struct Known {
+/// What is known of an index: its words. It exists only in clauses.
+pub struct KnownWords {
     /// The words.
     pub words: LinkedList<u64>,
 }
 
-/// The rule of an index: there is one who knows its words, and it knows all of them.
-pub struct Written;
+/// The rule of an index: the holder of its `Words`, and nobody else, knows all of its words.
+pub struct HolderKnowsWords;
 
-impl TableRule<(), Known, Vec<u64>> for Written {
+impl TableRule<(), KnownWords, Vec<u64>> for HolderKnowsWords {
     ghost use Rattle.std.specs.Prelude.{◌≡◌, [], ◌∷◌};
 
     ghost holds = { λ _ index. index.views ≡ record { words = index.words } ∷ [] };
@@ -27,10 +27,10 @@ impl TableRule<(), Known, Vec<u64>> for Written {
     ghost first = { λ zeros. record { words = zeros.items } };
 }
 
-/// A step that reads a word: it finds the word that is known.
+/// A step that reads a word: it finds what is known of it.
 struct Look;
 
-impl Play<(), Known> for Look {
+impl Play<(), KnownWords> for Look {
     ghost use Rattle.std.specs.Prelude.{◌≡◌};
     ghost use Rattle.concurrent_lru.specs.Probing.Probes.{mark_at};
 
@@ -38,22 +38,22 @@ impl Play<(), Known> for Look {
         × (after ≡ before) };
 }
 
-/// A step that writes a word, which is known afterwards.
+/// A step that writes a word: the new word is then known.
 struct Write;
 
-impl Play<(), Known> for Write {
+impl Play<(), KnownWords> for Write {
     ghost use Rattle.std.specs.Prelude.{◌≡◌, slice_set};
 
     ghost then = { λ step before written after. after
         ≡ (record { words = slice_set before.0.words step.word written }, before.1) };
 }
 
-/// The words of an index, for whoever holds the lock: nobody else writes them. Clauses see the list
+/// The words of an index, for the holder of the lock: nobody else writes them. Clauses see the list
 /// of the words.
 #[derive(Drop)]
 pub struct Words {
     index: Arc<Index>,
-    seat: Seat<(), Known>,
+    seat: Seat<(), KnownWords>,
 }
 
 impl Model for Words {
@@ -71,7 +71,7 @@ impl Model for Words {
 }
 
 impl Words {
-    /// Creates an index of so many words, a power of two, all of them 0.
+    /// Creates an index of `count` words, a power of two, all of them 0.
     ///
     /// Returns `AllocError` if the allocator refuses.
     pub fn new(alloc: Global, count: usize) -> Result<Words, AllocError>
@@ -91,7 +91,7 @@ impl Words {
 
     /// Returns the index, for those who read it without the lock.
     ///
-    /// Returns `AllocError` if it has as many owners as can be counted.
+    /// Returns `AllocError` if the count of its owners would overflow.
     pub fn share(&self) -> Result<Arc<Index>, AllocError> {
         self.index.clone()
     }

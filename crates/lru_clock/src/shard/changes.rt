@@ -1,5 +1,5 @@
-//! The calls that change a shard. Each holds the lock once for each entry that leaves, and once
-//! more for what it changes itself.
+//! The calls that change a shard. Each takes the lock once for each entry that it removes, and at
+//! most once more.
 ghost use Rattle.std.specs.Prelude.{◌≡◌, ◌≢◌, ◌<◌, true, IfErr, IfOk, IfSome};
 ghost use mathlib.Core.List.{IsPrefix};
 ghost use Rattle.lru_clock.specs.Seats.{LacksKey};
@@ -14,19 +14,19 @@ use std::hash::Hash;
 use std::marker::PhantomData;
 use std::sync::{MutexGuard, Wait};
 
-// Returns the key of a making that ended, if it is the entry's. A key is made by one caller at a
-// time, so it is, unless the making was invalidated.
-fn own_key<K: Eq + Drop>(making: Option<K>, key: &K) -> Option<K>
-    ensures { IfSome result (λ own. K.eq own key.now ≡ true) }
+// Returns the key of the making that ended, or `None` if the making was invalidated. That key
+// equals the entry's, but only this comparison proves it.
+fn checked_key<K: Eq + Drop>(making: Option<K>, key: &K) -> Option<K>
+    ensures { IfSome result (λ made. K.eq made key.now ≡ true) }
 {
     match making {
-        Some(own) => { if own == *key { Some(own) } else { None } }
+        Some(made) => { if made == *key { Some(made) } else { None } }
         None => None,
     }
 }
 
 impl<K: Hash + Eq + Clone + Drop, V: Drop, F: Fit<K, V>> Shard<K, V, F> {
-    // Copies the key of a new entry.
+    // Returns a new entry, with a copy of the key.
     fn new_entry(&self, key: &K, value: V) -> Result<Kept<K, V, F>, Refusal>
         requires fits { F.fits key.now value }
         ensures fits { IfOk result (λ kept. F.fits kept.key kept.value) }
@@ -41,7 +41,7 @@ impl<K: Hash + Eq + Clone + Drop, V: Drop, F: Fit<K, V>> Shard<K, V, F> {
     }
 
     /// Stores the value that was made under a ticket, ends the making, and returns a pin of the
-    /// entry. A value whose key was invalidated meanwhile is stored for this caller alone.
+    /// entry. If the key was invalidated meanwhile, the value is stored for this caller alone.
     ///
     /// Returns `Memory` and `Overflow` if the entry is refused; the making then counts as failed.
     #[inline(never)]
@@ -72,7 +72,7 @@ impl<K: Hash + Eq + Clone + Drop, V: Drop, F: Fit<K, V>> Shard<K, V, F> {
         let coming = Coming {
             charge,
             tag,
-            own: own_key(making, &kept.key),
+            key_copy: checked_key(making, &kept.key),
             kept,
         };
         let (stored, leftover) = self.put(&mut guard, key, coming);
@@ -97,9 +97,9 @@ impl<K: Hash + Eq + Clone + Drop, V: Drop, F: Fit<K, V>> Shard<K, V, F> {
         drop(making);
     }
 
-    /// Stores a value, replacing what the key has, and returns a pin of the entry.
+    /// Stores a value, replacing the key's entry, and returns a pin of the new entry.
     ///
-    /// Returns `Memory` and `Overflow` if the entry is refused; what the key has then stays.
+    /// Returns `Memory` and `Overflow` if the new entry is refused; the old one then stays.
     pub fn insert<R: Wait>(
         &self,
         rt: &R,
@@ -115,7 +115,7 @@ impl<K: Hash + Eq + Clone + Drop, V: Drop, F: Fit<K, V>> Shard<K, V, F> {
         ensures never_stale { IfErr result (λ e. e ≢ Refusal.Stale) }
     {
         let kept = self.new_entry(key, value)?;
-        let own = kept.key.clone()?;
+        let key_copy = kept.key.clone()?;
         for _ in rt.forever() {
             let mut guard = self.lock(rt);
             if let Err(refusal) = self.admit(&mut guard, charge) {
@@ -132,7 +132,7 @@ impl<K: Hash + Eq + Clone + Drop, V: Drop, F: Fit<K, V>> Shard<K, V, F> {
                 charge,
                 tag,
                 kept,
-                own: Some(own),
+                key_copy: Some(key_copy),
             };
             let (stored, leftover) = self.put(&mut guard, key, coming);
             guard.counts.insertions = guard.counts.insertions.wrapping_add(1);
@@ -145,8 +145,8 @@ impl<K: Hash + Eq + Clone + Drop, V: Drop, F: Fit<K, V>> Shard<K, V, F> {
         unreachable!()
     }
 
-    // Invalidates the key's entry. If that does not make it leave, another one may leave to make
-    // room for the charge.
+    // Invalidates the key's entry. If that removes no entry, evicts one if the charge needs the
+    // room.
     fn replace(
         &self,
         state: &mut ShardState<K>,
@@ -160,8 +160,8 @@ impl<K: Hash + Eq + Clone + Drop, V: Drop, F: Fit<K, V>> Shard<K, V, F> {
         }
     }
 
-    // Invalidates the key's entry, which leaves if nobody has pinned it. The index has none of the
-    // key then.
+    // Invalidates the key's entry, and removes it if nobody has pinned it. The index then has no
+    // entry for the key.
     fn invalidate_entry(&self, state: &mut ShardState<K>, tag: u32, key: &K) -> Leaver<K, V, F>
         ensures gone { LacksKey K.eq state.new.seats tag key.now }
     {
@@ -179,7 +179,8 @@ impl<K: Hash + Eq + Clone + Drop, V: Drop, F: Fit<K, V>> Shard<K, V, F> {
         self.end_invalidation(guard, key, leaver);
     }
 
-    /// `invalidate`, after which only entries that come later came after `past.since`.
+    /// `invalidate`, which moves `past.since` to this call: only entries that are stored later come
+    /// after it.
     pub fn invalidate_since<R: Wait>(&self, rt: &R, tag: u32, key: &K, past: &mut Past<K, V>)
         requires book { past.old.book ≡ self.now.store.chronicle.first.book }
         ensures book { past.new.book ≡ past.old.book }
@@ -205,7 +206,7 @@ impl<K: Hash + Eq + Clone + Drop, V: Drop, F: Fit<K, V>> Shard<K, V, F> {
         drop(making);
     }
 
-    /// Evicts the key's entry if nobody has pinned it, whatever its chances.
+    /// Evicts the key's entry, whatever its chances, if nobody has pinned it.
     pub fn advise<R: Wait>(&self, rt: &R, tag: u32, key: &K) {
         let mut guard = self.lock(rt);
         let leaver = match guard.seats.find(tag, key) {
@@ -215,7 +216,7 @@ impl<K: Hash + Eq + Clone + Drop, V: Drop, F: Fit<K, V>> Shard<K, V, F> {
         self.unlock(guard, leaver);
     }
 
-    // Evicts the entry of a place if nobody has pinned it.
+    // Evicts the entry at a place if nobody has pinned it.
     fn take_idle(&self, state: &mut ShardState<K>, place: u32) -> Leaver<K, V, F> {
         let taken = self.store.take_idle(place)?;
         Some(self.vacate(state, taken))
@@ -236,7 +237,7 @@ impl<K: Hash + Eq + Clone + Drop, V: Drop, F: Fit<K, V>> Shard<K, V, F> {
         unreachable!()
     }
 
-    // Evicts the first entry from a place on that nobody has pinned.
+    // Evicts the first entry that nobody has pinned, from the place `next` on.
     fn take_next_idle(&self, state: &mut ShardState<K>, next: &mut u32) -> Leaver<K, V, F> {
         for place in *next..state.seats.places() {
             if let Some(leaver) = self.take_idle(state, place) {
@@ -256,7 +257,7 @@ impl<K: Hash + Eq + Clone + Drop, V: Drop, F: Fit<K, V>> Shard<K, V, F> {
         self.unlock(guard, leaver);
     }
 
-    /// Adds slots until there are so many.
+    /// Adds slots until there are as many as `entries`.
     ///
     /// Returns `Memory` and `Overflow` as `Store::grow` does. No entry changes.
     pub fn reserve<R: Wait>(&self, rt: &R, entries: usize) -> Result<(), Refusal>
@@ -277,7 +278,7 @@ impl<K: Hash + Eq + Clone + Drop, V: Drop, F: Fit<K, V>> Shard<K, V, F> {
         Ok(())
     }
 
-    /// Takes out an invalidated entry whose last pin was released.
+    /// Removes an invalidated entry whose last pin was released.
     #[inline(never)]
     pub fn take_invalidated<R: Wait>(&self, rt: &R, place: u32) {
         let mut guard = self.lock(rt);

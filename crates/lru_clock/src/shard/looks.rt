@@ -1,5 +1,5 @@
-//! The calls that look at a shard: hits, without the lock; and under it a second look, the start
-//! of a making, and sums.
+//! The calls that look at a shard: hits, without the lock; and under the lock second looks, the
+//! start of a making, and sums.
 ghost use Rattle.std.specs.Prelude.{◌≡◌, ◌≢◌, ◌<◌, IfErr, IfOk, IfSome};
 ghost use Rattle.lru_clock.specs.Hits.{Sees};
 ghost use Rattle.lru_clock.specs.Turns.{IfHit};
@@ -14,9 +14,10 @@ use std::hash::Hash;
 use std::sync::{MutexGuard, Wait};
 
 impl<K: Hash + Eq + Clone + Drop, V: Drop, F: Fit<K, V>> Shard<K, V, F> {
-    /// Pins the key's entry, and returns it with its place. A miss looks once more under the lock.
+    /// Pins the key's entry, gives it another chance, and returns the pin with the entry's place. A
+    /// miss looks once more under the lock.
     ///
-    /// Returns `Overflow` if the entry has the maximum of pins.
+    /// Returns `Overflow` if the entry has the maximum number of pins.
     #[inline(always)]
     pub fn pin<R: Wait>(
         &self,
@@ -33,21 +34,20 @@ impl<K: Hash + Eq + Clone + Drop, V: Drop, F: Fit<K, V>> Shard<K, V, F> {
             (λ f. Sees K.eq past key.now f.1.value f.1.book f.1.log))) }
         ensures refused { IfErr result (λ e. e ≡ Refusal.Overflow) }
     {
-        match self.find(tag, key, true, past)? {
+        match self.find(tag, key, past)? {
             Some(found) => Ok(Some(found)),
-            // A copy, so that the compiler knows that the first look has no past, if there is none.
-            None => self.find_locked(rt, tag, key, true, &Past::copied(past)),
+            // Passes a copy, so that the compiler can tell in the first look whether there is a
+            // past.
+            None => self.find_locked(rt, tag, key, &Past::copied(past)),
         }
     }
 
-    // `pin` without the lock, where an entry may be missed while the index is written. A use gives
-    // it a chance.
+    // `pin` without the lock. It may miss an entry while the index is being written.
     #[inline(always)]
     fn find(
         &self,
         tag: u32,
         key: &K,
-        is_use: bool,
         past: &Option<Past<K, V>>,
     ) -> Result<Option<(u32, Pin<'_, K, V, F>)>, Refusal>
         requires book { IfSome past.now
@@ -67,24 +67,24 @@ impl<K: Hash + Eq + Clone + Drop, V: Drop, F: Fit<K, V>> Shard<K, V, F> {
                 return Ok(None);
             };
             if let Some(slot) = self.slot(place) {
-                if let Some(pin) = slot.pin(key, self.most_pins, is_use, past)? {
+                if let Some(pin) = slot.pin(key, self.most_pins, past)? {
                     return Ok(Some((place, pin)));
                 }
-                // The pin that compared another key's entry may have kept it from leaving.
+                // The pin under which another key's entry was compared may have kept that entry
+                // from being evicted.
                 self.settle_if_above();
             }
         }
         Ok(None)
     }
 
-    // `find` under the lock, where no entry is missed.
+    // `find` under the lock, where it misses no entry.
     #[inline(never)]
     fn find_locked<R: Wait>(
         &self,
         rt: &R,
         tag: u32,
         key: &K,
-        is_use: bool,
         past: &Option<Past<K, V>>,
     ) -> Result<Option<(u32, Pin<'_, K, V, F>)>, Refusal>
         requires book { IfSome past.now
@@ -96,18 +96,17 @@ impl<K: Hash + Eq + Clone + Drop, V: Drop, F: Fit<K, V>> Shard<K, V, F> {
         ensures refused { IfErr result (λ e. e ≡ Refusal.Overflow) }
     {
         let mut guard = self.lock(rt);
-        let found = self.find_listed(&mut guard, tag, key, is_use, past);
+        let found = self.find_listed(&mut guard, tag, key, past);
         self.unlock(guard, None);
         found
     }
 
-    // Pins the entry that the index has of a key.
+    // Pins the entry that the index has for a key.
     fn find_listed(
         &self,
         state: &mut ShardState<K>,
         tag: u32,
         key: &K,
-        is_use: bool,
         past: &Option<Past<K, V>>,
     ) -> Result<Option<(u32, Pin<'_, K, V, F>)>, Refusal>
         requires book { IfSome past.now
@@ -124,13 +123,13 @@ impl<K: Hash + Eq + Clone + Drop, V: Drop, F: Fit<K, V>> Shard<K, V, F> {
         let Some(slot) = self.slot(place) else {
             return Ok(None);
         };
-        match slot.pin(key, self.most_pins, is_use, past)? {
+        match slot.pin(key, self.most_pins, past)? {
             Some(pin) => Ok(Some((place, pin))),
             None => Ok(None),
         }
     }
 
-    /// Pins the key's entry without the lock, or else begins as `begin` does.
+    /// Pins the key's entry without the lock, or else does what `begin` does.
     ///
     /// Returns `Overflow` and `Memory` as `begin` does.
     #[inline(always)]
@@ -145,7 +144,7 @@ impl<K: Hash + Eq + Clone + Drop, V: Drop, F: Fit<K, V>> Shard<K, V, F> {
             (λ turn. IfHit turn (λ p. (p.key ≡ key.now) × F.fits key.now p.value)) }
         ensures never_stale { IfErr result (λ e. e ≢ Refusal.Stale) }
     {
-        match self.find(tag, key, true, &None)? {
+        match self.find(tag, key, &None)? {
             Some((place, pin)) => Ok(Turn::Hit(place, pin)),
             None => self.begin(rt, tag, key, charge),
         }
@@ -154,8 +153,8 @@ impl<K: Hash + Eq + Clone + Drop, V: Drop, F: Fit<K, V>> Shard<K, V, F> {
     /// Pins the key's entry, or begins the making of its value. Waits while another caller makes
     /// it.
     ///
-    /// Returns `Overflow` if the entry has the maximum of pins, or if the charge would take the
-    /// total past the maximum of a `u64`, and `Memory` if a copy of the key is refused.
+    /// Returns `Overflow` if the entry has the maximum number of pins, or if the charge would take
+    /// the total past `u64::MAX`, and `Memory` if a copy of the key is refused.
     #[inline(never)]
     pub fn begin<R: Wait>(
         &self,
@@ -173,7 +172,7 @@ impl<K: Hash + Eq + Clone + Drop, V: Drop, F: Fit<K, V>> Shard<K, V, F> {
         turn
     }
 
-    // `begin`, without the release of the lock.
+    // `begin`, which leaves it to the caller to release the lock.
     fn begin_locked<R: Wait>(
         &self,
         rt: &R,
@@ -190,7 +189,7 @@ impl<K: Hash + Eq + Clone + Drop, V: Drop, F: Fit<K, V>> Shard<K, V, F> {
     {
         let mut guard = self.lock(rt);
         for _ in rt.forever() {
-            match self.find_listed(&mut guard, tag, key, true, &None) {
+            match self.find_listed(&mut guard, tag, key, &None) {
                 Ok(None) => {}
                 Ok(Some((place, pin))) => return (guard, Ok(Turn::Hit(place, pin))),
                 Err(refusal) => return (guard, Err(refusal)),
@@ -215,8 +214,8 @@ impl<K: Hash + Eq + Clone + Drop, V: Drop, F: Fit<K, V>> Shard<K, V, F> {
         if state.seats.total().checked_add(charge).is_none() {
             return Err(Refusal::Overflow);
         }
-        let own = key.clone()?;
-        Ok(Some(state.makings.begin(own)?))
+        let key_copy = key.clone()?;
+        Ok(Some(state.makings.begin(key_copy)?))
     }
 
     // Waits until a making ends or is invalidated.
@@ -241,7 +240,7 @@ impl<K: Hash + Eq + Clone + Drop, V: Drop, F: Fit<K, V>> Shard<K, V, F> {
         place.is_some()
     }
 
-    /// Returns what the shard holds and has counted.
+    /// Returns the numbers of the shard.
     pub fn numbers<R: Wait>(&self, rt: &R) -> Numbers {
         let guard = self.lock(rt);
         let numbers = guard.numbers();

@@ -1,27 +1,35 @@
-//! What a shard knows under its lock of one of its slots.
+//! What a shard knows, under its lock, about one of its slots.
 ghost use Rattle.std.specs.Prelude.{◌≡◌, ◌≢◌, false, true, IfSome, MatchOption, None, Some};
 ghost use Rattle.lru_clock.specs.Seats.{seat as seat_of, listed_as};
 
 use std::marker::Model;
 use std::mem::size_of;
 
-/// A place under the lock. Clauses see the charge of its entry, or 0 if there is none; the tag of
-/// the hash of its entry's key; whether the index has its entry; and a copy of its entry's key,
-/// unless that was invalidated before the entry came.
+/// What is known of a place under the lock. Clauses see the charge of its entry, or 0 if there is
+/// none; the tag of the hash of the entry's key; whether the index has the entry; and a copy of the
+/// entry's key, unless the entry was invalidated before it was stored.
 #[derive(Drop)]
 pub struct Seat<K> {
     state: State<K>,
 }
 
-// The fields stand in this order so that those that are small share a word.
+// The small fields come first, so that they share a word.
 #[derive(Drop)]
 enum State<K> {
-    // There is no entry. Vacant places are linked: this is the next one, or none.
+    // There is no entry. Vacant places are linked: this leads to the next one, if there is one.
     Vacant(u32),
-    // The entry was invalidated before it came. It has a tag and a charge.
-    Hidden(u32, u64),
-    // Whether the index has the entry, its tag, its charge and a copy of its key.
-    Keyed(bool, u32, u64, K),
+    // The entry was invalidated before it was stored, so the index never has it.
+    Hidden {
+        tag: u32,
+        charge: u64,
+    },
+    // The entry has a copy of its key, by which the index can have it.
+    Keyed {
+        is_listed: bool,
+        tag: u32,
+        charge: u64,
+        key: K,
+    },
 }
 
 const _: () = prove!(size_of::<Seat<u64>>() == 24);
@@ -48,21 +56,26 @@ impl<K> Seat<K> {
         }
     }
 
-    /// Creates a seat whose entry the index does not have.
-    pub fn unlisted(charge: u64, tag: u32, key: Option<K>) -> Self
+    /// Creates the seat of an entry that the index does not have.
+    pub fn unlisted(tag: u32, charge: u64, key: Option<K>) -> Self
         ensures { result ≡ seat_of charge tag key }
     {
         match key {
             Some(key) => Seat {
-                state: State::Keyed(false, tag, charge, key),
+                state: State::Keyed {
+                    is_listed: false,
+                    tag,
+                    charge,
+                    key,
+                },
             },
             None => Seat {
-                state: State::Hidden(tag, charge),
+                state: State::Hidden { tag, charge },
             },
         }
     }
 
-    /// Returns the vacant place after this one, if this one is vacant.
+    /// Returns the next vacant place, if this place is vacant.
     pub fn next(&self) -> Option<u32>
         ensures { IfSome result (λ _. self.now ≡ seat_of 0 0 None) }
     {
@@ -72,14 +85,14 @@ impl<K> Seat<K> {
         }
     }
 
-    /// Returns the charge of the entry.
+    /// Returns the charge of the entry, or 0 if there is none.
     pub fn charge(&self) -> u64
         ensures { result ≡ self.now.charge }
     {
         match &self.state {
             State::Vacant(_) => 0,
-            State::Hidden(_, charge) => *charge,
-            State::Keyed(_, _, charge, _) => *charge,
+            State::Hidden { charge, .. } => *charge,
+            State::Keyed { charge, .. } => *charge,
         }
     }
 
@@ -89,8 +102,8 @@ impl<K> Seat<K> {
     {
         match &self.state {
             State::Vacant(_) => 0,
-            State::Hidden(tag, _) => *tag,
-            State::Keyed(_, tag, _, _) => *tag,
+            State::Hidden { tag, .. } => *tag,
+            State::Keyed { tag, .. } => *tag,
         }
     }
 
@@ -99,47 +112,47 @@ impl<K> Seat<K> {
         ensures { result ≡ self.now.is_listed }
     {
         match &self.state {
-            State::Keyed(is_listed, _, _, _) => *is_listed,
+            State::Keyed { is_listed, .. } => *is_listed,
             _ => false,
         }
     }
 
-    /// Returns the copy of the entry's key.
+    /// Returns the copy of the entry's key, if there is one.
     pub fn key(&self) -> Option<&K>
         ensures { MatchOption result (self.now.key ≡ None) (λ key. self.now.key ≡ Some key.now) }
     {
         match &self.state {
-            State::Keyed(_, _, _, key) => Some(key),
+            State::Keyed { key, .. } => Some(key),
             _ => None,
         }
     }
 
-    /// Returns the copy of the entry's key.
+    /// Returns the copy of the entry's key, if there is one.
     pub fn into_key(self) -> Option<K>
     where
         K: Drop,
     {
         match self.state {
-            State::Keyed(_, _, _, key) => Some(key),
+            State::Keyed { key, .. } => Some(key),
             _ => None,
         }
     }
 
-    /// The index has the entry from now on.
+    /// Records that the index has the entry.
     pub fn list(&mut self)
         requires { self.old.key ≢ None }
         ensures { self.new ≡ listed_as true self.old }
     {
-        if let State::Keyed(is_listed, _, _, _) = &mut self.state {
+        if let State::Keyed { is_listed, .. } = &mut self.state {
             *is_listed = true;
         }
     }
 
-    /// The index has the entry no more.
+    /// Records that the index no longer has the entry.
     pub fn unlist(&mut self)
         ensures { self.new ≡ listed_as false self.old }
     {
-        if let State::Keyed(is_listed, _, _, _) = &mut self.state {
+        if let State::Keyed { is_listed, .. } = &mut self.state {
             *is_listed = false;
         }
     }

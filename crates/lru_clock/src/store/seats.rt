@@ -1,5 +1,4 @@
-//! What a shard knows under its lock of each of its slots, the words of the index, and which slots
-//! are vacant.
+//! What a shard knows, under its lock, about each of its slots, and the words of the index.
 ghost use Rattle.std.specs.Prelude.{◌≡◌, ◌+◌, ◌<◌, ℕ, [], sum_by, true, false};
 ghost use Rattle.std.specs.Prelude.{IfOk, IfSome, IsTrue, MatchBool, MatchOption, MatchResult, None};
 ghost use Rattle.std.specs.Prelude.{length, replicate, List, Some, IfNone};
@@ -22,26 +21,26 @@ use std::sync::Arc;
 // The number of words of the first index.
 const FIRST_WORDS: usize = 256;
 
-// The greatest number of words: as many as there are tags.
+// The maximum number of words: as many as there are tags.
 const MOST_WORDS: usize = 0x1_0000_0000;
 
-/// A debt: a place that was taken for an entry whose charge counts already. `Store::fill` takes it
-/// with an entry whose key equals the one that the seat has, or else `Seats::cancel`. So no entry
-/// is in a slot that does not count, or whose seat has another key.
+/// A debt: a place that was taken for an entry, whose charge already counts. Either `Store::fill`
+/// takes it, with an entry whose key equals the copy in the seat, or `Seats::cancel` does. So the
+/// charge of each entry in a slot counts, and its seat has no other key.
 pub struct Reservation<K> {
     pub(super) place: u32,
     pub(super) key: Shown<Option<K>>,
 }
 
 /// The seats of a shard in the order of their places, with the sum of their charges, the number of
-/// those that have an entry, the first one that is vacant, and the words of the index. Clauses see
-/// the list of the seats.
+/// entries, the first of the vacant places, and the words of the index. Clauses see the list of the
+/// seats.
 #[derive(Drop)]
 pub struct Seats<K: Eq> {
     total: u64,
     seats: Vec<Seat<K>>,
     entries: usize,
-    // No place if none is vacant.
+    // The first of the linked vacant places, or a place without a seat if there is none.
     vacant: u32,
     words: Words,
 }
@@ -62,7 +61,7 @@ impl<K: Eq> Model for Seats<K> {
 }
 
 impl<K: Eq + Drop> Seats<K> {
-    /// Creates no seats, and an index without entries.
+    /// Creates an empty list of seats, and an index without entries.
     ///
     /// Returns `AllocError` if the allocator refuses.
     pub fn new(alloc: Global) -> Result<Seats<K>, AllocError>
@@ -80,7 +79,7 @@ impl<K: Eq + Drop> Seats<K> {
 
     /// Returns the index, for those who read it without the lock.
     ///
-    /// Returns `AllocError` if it has as many owners as can be counted.
+    /// Returns `AllocError` if the count of its owners would overflow.
     pub fn share_index(&self) -> Result<Arc<Index>, AllocError> {
         self.words.share()
     }
@@ -99,12 +98,12 @@ impl<K: Eq + Drop> Seats<K> {
         self.seats.len()
     }
 
-    /// Returns the number of seats as a place: the one that a further seat would have.
+    /// Returns the place that the next seat will have, which is the number of seats.
     pub fn places(&self) -> u32 {
         u32::try_from(self.seats.len()).unwrap_or(u32::MAX)
     }
 
-    /// Returns the number of seats that have an entry.
+    /// Returns the number of entries.
     pub fn entries(&self) -> usize {
         self.entries
     }
@@ -117,7 +116,7 @@ impl<K: Eq + Drop> Seats<K> {
         }
     }
 
-    /// Returns the place of a key's entry, if the index has one. It has no other of the key.
+    /// Returns the place of a key's entry, if the index has one. It has no other entry of the key.
     pub fn find(&mut self, tag: u32, key: &K) -> Option<u32>
         ensures same { self.new ≡ self.old }
         ensures found { MatchOption result (LacksKey K.eq self.new tag key.now)
@@ -131,7 +130,7 @@ impl<K: Eq + Drop> Seats<K> {
         }
     }
 
-    /// Makes room for exactly so many more seats: those of a page, whose slots are created at once.
+    /// Makes room for exactly `more` seats, those of a page, whose slots are all created at once.
     ///
     /// Returns `AllocError` if the allocator refuses.
     pub fn make_room(&mut self, more: usize) -> Result<(), AllocError>
@@ -140,8 +139,8 @@ impl<K: Eq + Drop> Seats<K> {
         self.seats.reserve_exact(more)
     }
 
-    /// Adds the seat of `place`, the first place without a seat. The place is vacant. Returns
-    /// whether that took a new index.
+    /// Adds a vacant seat for `place`, the first place without a seat. Returns whether the index
+    /// was replaced by a wider one.
     ///
     /// Returns `AllocError` if the allocator refuses.
     pub fn add(&mut self, place: u32) -> Result<bool, AllocError>
@@ -160,16 +159,16 @@ impl<K: Eq + Drop> Seats<K> {
         }
     }
 
-    /// Returns whether there is a place that has no entry.
+    /// Returns whether there is a vacant place.
     pub fn has_vacant(&self) -> bool {
         (self.vacant as usize) < self.seats.len()
     }
 
-    /// Takes a vacant place for an entry, whose charge counts from now on, and keeps a copy of its
-    /// key. The index does not have it yet.
+    /// Takes a vacant place for an entry, whose charge then counts, and keeps the copy of its key.
+    /// The index does not have the entry yet.
     ///
-    /// Returns the key if no place is vacant, or if the sum of the charges would pass the maximum
-    /// of a `u64`.
+    /// Returns the copy of the key if no place is vacant, or if the charge would take the total
+    /// past `u64::MAX`.
     pub fn reserve(
         &mut self,
         charge: u64,
@@ -187,12 +186,12 @@ impl<K: Eq + Drop> Seats<K> {
         self.vacant = next;
         self.entries = self.entries.wrapping_add(1);
         let shown = Shown::of(&key);
-        drop(self.put(place, Seat::unlisted(charge, tag, key)));
+        drop(self.put(place, Seat::unlisted(tag, charge, key)));
         Ok(Reservation { place, key: shown })
     }
 
     /// Gives back the place of an entry that could not be stored, and returns the copy of its key.
-    /// Its charge counts no more.
+    /// Its charge no longer counts.
     pub fn cancel(&mut self, reservation: Reservation<K>) -> Option<K>
         ensures { self.new ≡ set self.old reservation.place (seat_of 0 0 None) }
     {
@@ -201,17 +200,17 @@ impl<K: Eq + Drop> Seats<K> {
     }
 
     /// Gives back the place of an entry that was taken out, and returns the entry with the copy of
-    /// its key. Its charge counts no more, and the index does not have it.
+    /// its key. Its charge no longer counts, and the index no longer has it.
     pub fn vacate<V, F: Fit<K, V>>(&mut self, taken: Taken<K, V, F>) -> Sealed<Left<K, V, F>>
         ensures { self.new ≡ set self.old taken.place (seat_of 0 0 None) }
     {
         let Taken { place, emptied } = taken;
-        let own = self.empty(place);
-        Sealed::of(Left::of(emptied, own))
+        let key_copy = self.empty(place);
+        Sealed::of(Left::of(emptied, key_copy))
     }
 
-    /// Adds the entry of a place to the index, unless that has an entry of its key. Returns whether
-    /// it did.
+    /// Adds the entry at a place to the index, unless the index already has an entry of its key.
+    /// Returns whether it was added.
     pub fn list(&mut self, place: u32) -> bool
         ensures { MatchBool result (ListsAt self.old place self.new) (self.new ≡ self.old) }
     {
@@ -233,7 +232,8 @@ impl<K: Eq + Drop> Seats<K> {
         }
     }
 
-    /// Removes the entry of a place from the index, if that has it. Its key then has none.
+    /// Removes the entry at a place from the index, if the index has it. Then the index has no
+    /// entry of its key.
     pub fn unlist(&mut self, place: u32)
         ensures seats { UnlistsAt self.old place self.new }
         ensures gone { (t : ℕ) (k : K) → HasKeyAt K.eq self.old t k place
@@ -246,8 +246,8 @@ impl<K: Eq + Drop> Seats<K> {
         }
     }
 
-    // Returns the vacant place after a place, if an entry of this charge may be put there: it is
-    // vacant, and the sum of the charges stays within a `u64`.
+    // Returns the vacant place after this one, if an entry of this charge may be put at this one:
+    // if it is vacant, and the sum of the charges stays within a `u64`.
     fn vacant_after(&self, place: u32, charge: u64) -> Option<u32>
         ensures { IfSome result (λ _. IsFree self.now place charge) }
     {
@@ -259,7 +259,7 @@ impl<K: Eq + Drop> Seats<K> {
         }
     }
 
-    // Sets the seat of a place, and returns what it was.
+    // Replaces the seat of a place, and returns the old one.
     fn put(&mut self, place: u32, seat: Seat<K>) -> Seat<K>
         requires free { IsFree self.old place seat.charge }
         requires unlisted { seat.is_listed ≡ false }
@@ -271,8 +271,7 @@ impl<K: Eq + Drop> Seats<K> {
         std::mem::replace(&mut self.seats[at], seat)
     }
 
-    // Sets the seat of a place to that of no entry, gives the place back, and returns the copy of
-    // the key.
+    // Makes a place vacant, removes its entry from the index, and returns the copy of the key.
     fn empty(&mut self, place: u32) -> Option<K>
         ensures { self.new ≡ set self.old place (seat_of 0 0 None) }
     {
@@ -289,8 +288,8 @@ impl<K: Eq + Drop> Seats<K> {
     }
 }
 
-// Returns a wider index if one of so many words has no room for one entry more, so that at least
-// half of it is empty. One with the greatest number of words becomes fuller.
+// Returns a wider index if, with another entry, less than half of `count` words would be empty. An
+// index with the maximum number of words is filled further.
 fn widened<K: Eq>(seats: &Vec<Seat<K>>, count: usize) -> Result<Option<Words>, AllocError>
     requires index { (words : List ℕ) × IsIndex K.eq seats.now.items words }
     requires size { IsSize count }
@@ -315,7 +314,7 @@ fn widened<K: Eq>(seats: &Vec<Seat<K>>, count: usize) -> Result<Option<Words>, A
     }
 }
 
-// Puts the word of each entry that the index has into the words of another, which are all 0.
+// Puts the word of each listed entry into the words of a new index, which are all 0.
 fn copy_listed<K: Eq>(seats: &[Seat<K>], words: &mut Words)
     requires index { (words : List ℕ) × IsIndex K.eq seats.now words }
     requires zeros { words.old ≡ replicate (length words.old) 0 }

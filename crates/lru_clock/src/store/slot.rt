@@ -1,8 +1,9 @@
-//! Slots, each with room for one entry and a word that says who may read or write it.
+//! Slots, each with room for one entry and a word that says who may read or write the entry.
 //!
-//! The low half of the word is that of the kit's `Counted`: two bits for the state, and 30 for the
-//! number of pins. The high half is the number of the entry's chances, so that a hit adds its pin
-//! and its chance in one compare-exchange.
+//! The low half of the word is laid out by the kit's `Counted`: two bits for the state, and 30 for
+//! the number of pins. The high half is the number of the entry's chances: how often the hand of
+//! the clock spares the entry before it evicts it. So a hit adds its pin and a chance in one
+//! compare-exchange.
 ghost use Rattle.std.specs.Prelude.{◌≡◌, ◌<◌, ◌≤◌, ◌%◌, IfErr, IfOk, IfSome, IsTrue};
 ghost use Rattle.counted_slot.specs.Counting.{readers, IsTurn};
 ghost use Rattle.lru_clock.specs.History.{turns};
@@ -19,19 +20,19 @@ use counted_slot::{Claim, Counted, FREE, Fits, MARKED, ONE_READER, PRESENT, TAKE
 use std::marker::{Model, PhantomData};
 use std::mem::size_of;
 
-/// The maximum of pins that an entry may have. One more fits its word: whoever finds the maximum
-/// takes that one for as long as it compares the key.
+/// The maximum number of pins of an entry. The word has room for one more, which a caller that
+/// finds the maximum takes while it compares the key.
 pub const MOST_PINS: u64 = 0x3fff_fffe;
 
 const ONE_CHANCE: u64 = 0x1_0000_0000;
 
-// The least word that has the maximum of chances.
+// The least word with the maximum number of chances.
 const MOST_CHANCES: u64 = 0x3_0000_0000;
 
-// The word of an entry that was used often and that nobody has pinned.
+// The word of a present entry that has the maximum number of chances, and that nobody has pinned.
 const MOST_USED: u64 = MOST_CHANCES + PRESENT;
 
-/// A key and its value, which fits it by the mark `F`.
+/// A key and a value, which fits the key by the mark `F`.
 #[derive(Drop)]
 pub struct Kept<K: Eq, V, F: Fit<K, V>> {
     pub key: K,
@@ -39,7 +40,7 @@ pub struct Kept<K: Eq, V, F: Fit<K, V>> {
     pub mark: PhantomData<F>,
 }
 
-/// An entry in its slot, and how it came there.
+/// An entry in its slot, and how it came to the slot.
 #[derive(Drop)]
 pub(super) struct Stored<K: Eq, V, F: Fit<K, V>> {
     kept: Kept<K, V, F>,
@@ -50,14 +51,15 @@ impl<K: Eq, V, F: Fit<K, V>> Fits for Stored<K, V, F> {
     ghost use Rattle.lru_clock.specs.History.{entry};
     ghost use Rattle.lru_clock.specs.Arrivals.{Arrives};
 
-    // The counter of the slot.
+    // The counter of the slot in the history.
     type Tag = Count<K, V>;
 
     ghost fits = { λ word stored. F.fits stored.kept.key stored.kept.value
         × Arrives word stored.arrival (entry stored.kept.key stored.kept.value) };
 }
 
-/// A debt: an entry that was taken out of its slot. `Seats::vacate` takes it, by way of a `Taken`.
+/// A debt: an entry that was taken out of its slot. It becomes a part of a `Taken`, which
+/// `Seats::vacate` takes.
 pub struct Emptied<K: Eq, V, F: Fit<K, V>> {
     pub(super) kept: Kept<K, V, F>,
 }
@@ -67,7 +69,7 @@ pub struct Emptied<K: Eq, V, F: Fit<K, V>> {
 #[derive(Drop)]
 pub struct Slot<K: Eq, V, F: Fit<K, V>> {
     cell: Counted<Option<Stored<K, V, F>>>,
-    // Its part in the history.
+    // The slot's counter in the history.
     pub track: Track<K, V>,
     ghost same: { cell ≡ track.word },
 }
@@ -76,8 +78,8 @@ const _: () = prove!(size_of::<Slot<u64, u64, Anything>>() == 48);
 
 /// A debt: a pin. `release` takes it; until then the entry is neither freed nor evicted.
 ///
-/// Clauses see the key that was asked for, the value, which fits that key by the mark `F`, and what
-/// was seen of the history.
+/// Clauses see the key that the caller asked for, the value, which fits that key by the mark `F`,
+/// and the prefix of the history that the call saw.
 pub struct Pin<'a, K: Eq, V, F: Fit<K, V>> {
     claim: Sent<'a, Option<Stored<K, V, F>>>,
     asked: Shown<K>,
@@ -103,7 +105,7 @@ impl<'a, K: Eq, V, F: Fit<K, V>> Model for Pin<'a, K, V, F> {
         × F.fits p.asked.value p.shown.value };
 }
 
-/// What a released pin leaves of its entry.
+/// The state of an entry after a pin of it was released.
 #[derive(Clone, Copy, PartialEq, Eq)]
 pub enum Released {
     /// Others have pinned it.
@@ -126,7 +128,7 @@ fn pins_of(word: u64) -> u64
     word % ONE_CHANCE / ONE_READER
 }
 
-// Whether the word has an entry that nobody has pinned.
+// Returns whether the slot with this word has an entry that nobody has pinned.
 fn is_idle(word: u64) -> bool
     ensures { IsTrue result → IsTurn word 3 }
 {
@@ -146,19 +148,18 @@ impl<K: Eq + Drop, V: Drop, F: Fit<K, V>> Slot<K, V, F> {
         }
     }
 
-    /// Pins the entry if it is present and has this key. A use gives it one chance more, up to
-    /// three.
+    /// Pins the entry if it is present and has this key, and gives it another chance, up to three.
     ///
-    /// With a past, pins the entry only if it came after `since`. What was then seen extends what
-    /// the past has seen, and at its end the entry is in the slot.
+    /// With a past, pins the entry only if it came after `since`. The prefix of the history that
+    /// the pin then has extends the one that the past has seen, and the entry is in the slot at the
+    /// end of it.
     ///
-    /// Returns `Overflow` if the entry has this key and the maximum of pins.
+    /// Returns `Overflow` if the entry has this key and the maximum number of pins.
     #[inline(always)]
     pub fn pin(
         &self,
         key: &K,
         most_pins: u64,
-        is_use: bool,
         past: &Option<Past<K, V>>,
     ) -> Result<Option<Pin<'_, K, V, F>>, Refusal>
         requires limit { most_pins < 1073741823 }
@@ -169,24 +170,23 @@ impl<K: Eq + Drop, V: Drop, F: Fit<K, V>> Slot<K, V, F> {
             (λ p. Sees K.eq past key.now p.value p.book p.log))) }
         ensures refused { IfErr result (λ e. e ≡ Refusal.Overflow) }
     {
-        // A load before the compare-exchange would have the word's cache line sent twice, if
-        // another thread wrote it last. So the word is guessed.
+        // The word is guessed and not loaded first, since a load would transfer the word's cache
+        // line one more time if another thread wrote the word last.
         let (found, claim) = self.cell.turn(MOST_USED, MOST_USED + ONE_READER);
         if found == MOST_USED {
             return Pin::of_key(&self.track, claim, key, past, most_pins == 0);
         }
         claim.done();
-        self.pin_from(found, key, most_pins, is_use, past)
+        self.pin_from(found, key, most_pins, past)
     }
 
-    // Does what `pin` does, after a look that found this word.
+    // Does what `pin` does, after the word was found to be `seen`.
     #[inline(always)]
     fn pin_from(
         &self,
         seen: u64,
         key: &K,
         most_pins: u64,
-        is_use: bool,
         past: &Option<Past<K, V>>,
     ) -> Result<Option<Pin<'_, K, V, F>>, Refusal>
         requires limit { most_pins < 1073741823 }
@@ -203,12 +203,12 @@ impl<K: Eq + Drop, V: Drop, F: Fit<K, V>> Slot<K, V, F> {
                 return Ok(None);
             }
             let pins = pins_of(seen);
-            // Above the maximum, another caller is comparing its key.
+            // There is one more pin than the maximum while another caller compares the key.
             if pins > most_pins {
                 seen = self.cell.load();
                 continue;
             }
-            let is_chance = is_use && seen < MOST_CHANCES;
+            let is_chance = seen < MOST_CHANCES;
             let next = if is_chance {
                 seen + ONE_CHANCE + ONE_READER
             } else {
@@ -228,8 +228,8 @@ impl<K: Eq + Drop, V: Drop, F: Fit<K, V>> Slot<K, V, F> {
         Ok(None)
     }
 
-    // Takes a chance back that was given to the entry of another key. If the word changes at that
-    // moment, the entry keeps it.
+    // Takes back a chance that was given to the entry of another key. If the word changes at the
+    // same time, the entry keeps the chance.
     #[inline(never)]
     fn lose_chance(&self) {
         let seen = self.cell.load();
@@ -244,7 +244,7 @@ impl<K: Eq + Drop, V: Drop, F: Fit<K, V>> Slot<K, V, F> {
         pins_of(self.cell.load()) != 0
     }
 
-    // Pins the entry that the caller has just stored, which it knows again by the arrival.
+    // Pins the entry that the caller has just stored, which it recognizes by its arrival.
     fn pin_stored(
         &self,
         key: &K,
@@ -271,7 +271,7 @@ impl<K: Eq + Drop, V: Drop, F: Fit<K, V>> Slot<K, V, F> {
         None
     }
 
-    /// Stores an entry in a free slot, and pins it. One that was invalidated before it came leaves
+    /// Stores an entry in a free slot, and pins it. If the entry is already invalidated, it leaves
     /// the history at once, and nobody else can pin it.
     ///
     /// Returns the entry if it cannot be stored, and `None` if it cannot be pinned.
@@ -299,8 +299,9 @@ impl<K: Eq + Drop, V: Drop, F: Fit<K, V>> Slot<K, V, F> {
             claim.done();
             return Err(kept);
         }
-        // Always `Some`, since nobody changes a track without the lock.
+        // Always `Some`, since nobody else changes the counter of a slot without the lock.
         let Some(arrival) = self.track.come(number, seen, &kept.key, &kept.value) else {
+            // The slot was free, so here and below `put` returns `None`.
             let _ = claim.put(None, FREE);
             return Err(kept);
         };
@@ -318,7 +319,7 @@ impl<K: Eq + Drop, V: Drop, F: Fit<K, V>> Slot<K, V, F> {
         Ok(self.pin_stored(key, &arrival, &value))
     }
 
-    /// Invalidates the entry: nobody can pin it any more. It stays for those who have pinned it.
+    /// Invalidates the entry: nobody can pin it any more, but it stays for the callers that have.
     pub fn mark(&self) {
         for _ in 0..u64::MAX {
             let seen = self.cell.load();
@@ -334,8 +335,8 @@ impl<K: Eq + Drop, V: Drop, F: Fit<K, V>> Slot<K, V, F> {
         }
     }
 
-    /// The hand of the clock comes by: an entry that nobody has pinned loses a chance, or leaves if
-    /// it has none.
+    /// Lets the hand of the clock pass: an entry that nobody has pinned loses a chance, or is taken
+    /// out if it has none. So is an invalidated one, whatever its chances.
     pub(super) fn pass(&self) -> Option<Emptied<K, V, F>> {
         let seen = self.cell.load();
         if !is_idle(seen) {
@@ -349,7 +350,7 @@ impl<K: Eq + Drop, V: Drop, F: Fit<K, V>> Slot<K, V, F> {
         self.take_at(seen)
     }
 
-    /// Takes out an entry that nobody has pinned, whatever its chances.
+    /// Takes out the entry, whatever its chances, if nobody has pinned it.
     pub(super) fn take_idle(&self) -> Option<Emptied<K, V, F>> {
         let seen = self.cell.load();
         if is_idle(seen) {
@@ -359,7 +360,7 @@ impl<K: Eq + Drop, V: Drop, F: Fit<K, V>> Slot<K, V, F> {
         }
     }
 
-    /// Takes out an entry that was invalidated, if nobody has pinned it.
+    /// Takes out the entry if it was invalidated and nobody has pinned it.
     pub(super) fn take_invalidated(&self) -> Option<Emptied<K, V, F>> {
         let seen = self.cell.load();
         if state_of(seen) == MARKED && pins_of(seen) == 0 {
@@ -378,7 +379,7 @@ impl<K: Eq + Drop, V: Drop, F: Fit<K, V>> Slot<K, V, F> {
             claim.done();
             return None;
         }
-        // One that was invalidated has left the history before.
+        // An invalidated entry has already left the history.
         if state_of(seen) == PRESENT {
             self.track.leave();
         }
@@ -395,8 +396,8 @@ impl<K: Eq, V, F: Fit<K, V>> Stored<K, V, F> {
         Emptied { kept }
     }
 
-    // Shows the value and what was seen of the history, if the entry has this key. With a past, it
-    // must also have come after `since`, and must not have left.
+    // Shows the value, with a prefix of the history, if the entry has this key. With a past, the
+    // entry must also have come after `since`, and still be in its slot at the end of the prefix.
     #[inline(always)]
     fn confirm(
         &self,
@@ -420,7 +421,7 @@ impl<K: Eq, V, F: Fit<K, V>> Stored<K, V, F> {
         None
     }
 
-    // Shows the value, if the entry has this key and is the one of the arrival.
+    // Shows the value, if the entry has this key and came by this arrival.
     fn recognize(
         &self,
         key: &K,
@@ -437,7 +438,6 @@ impl<K: Eq, V, F: Fit<K, V>> Stored<K, V, F> {
         ensures same { IfSome result (λ found. found.value ≡ value.now.value) }
     {
         if self.kept.key == *key && self.arrival.is(arrival) {
-            let _ = value;
             Some(Shown::of(&self.kept.value))
         } else {
             None
@@ -446,8 +446,8 @@ impl<K: Eq, V, F: Fit<K, V>> Stored<K, V, F> {
 }
 
 impl<'a, K: Eq, V, F: Fit<K, V>> Pin<'a, K, V, F> {
-    // Keeps a pin of an entry that `confirm` accepts, unless it is one too many, and gives any
-    // other back.
+    // Keeps a pin of an entry that `confirm` accepts, unless it exceeds the maximum, and releases
+    // any other pin.
     #[inline(always)]
     fn of_key(
         track: &Track<K, V>,
@@ -489,7 +489,7 @@ impl<'a, K: Eq, V, F: Fit<K, V>> Pin<'a, K, V, F> {
         }
     }
 
-    // Keeps a pin of the entry of the arrival, and gives any other back.
+    // Keeps a pin of the entry that came by this arrival, and releases any other pin.
     fn of_stored(
         claim: Claim<'a, Option<Stored<K, V, F>>>,
         key: &K,
@@ -533,7 +533,7 @@ impl<'a, K: Eq, V, F: Fit<K, V>> Pin<'a, K, V, F> {
         }
     }
 
-    /// Returns what was seen of the history.
+    /// Returns the prefix of the history that was seen.
     #[inline(always)]
     pub fn seen(&self) -> Log<K, V>
         ensures { (result.book ≡ self.now.book) × (result.log ≡ self.now.log) }
@@ -541,7 +541,7 @@ impl<'a, K: Eq, V, F: Fit<K, V>> Pin<'a, K, V, F> {
         self.seen.again()
     }
 
-    /// Gives the pin back.
+    /// Releases the pin, and returns the state of the entry afterwards.
     #[inline(always)]
     pub fn release(self) -> Released {
         let Self {

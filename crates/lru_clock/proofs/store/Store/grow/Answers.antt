@@ -9,6 +9,6 @@ set_written-requires g c =
     let b = c.args.self.now.chronicle.first.book in
     let page = c.in-Some.slots.now in
     let look = c.in-Some.ensures.lookup in
-    let pages = subst (EachOf (λ page. page.tag ≡ numbers b)) (sym c.deref.ensures.value) c.args.self.now.told in
+    let pages = subst (EachOf (λ page. page.tag ≡ numbers b)) (sym c.deref.ensures.value) c.args.self.now.tags in
     let tag = pages c.page_of-page.result.0 page (read_at c.deref.result.now c.page_of-page.result.0 page look.3.0 look.1) in
     λ k x is. c.in_ok-new_page.ensures k x is ∙ sym tag

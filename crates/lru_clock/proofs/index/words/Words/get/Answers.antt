@@ -1,5 +1,5 @@
 use Rattle.std.proofs.Common.{ap}
-use Rattle.lru_clock.proofs.Words.Written.{looks, steps_on}
+use Rattle.lru_clock.proofs.Words.HolderKnowsWords.{looks, steps_on}
 use Rattle.lru_clock.proofs.index.words.Words.get.Goals as goal
 
 pub load-requires : goal.load-requires

@@ -1,5 +1,5 @@
 use Rattle.std.proofs.Common.{ap}
-use Rattle.lru_clock.proofs.Words.Written.{steps_on, writes}
+use Rattle.lru_clock.proofs.Words.HolderKnowsWords.{steps_on, writes}
 use Rattle.lru_clock.proofs.index.words.Words.set.Goals as goal
 
 pub store-requires : goal.store-requires
