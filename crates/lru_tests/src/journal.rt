@@ -2,12 +2,9 @@
 
 mod answer;
 mod caller;
-mod calls;
 mod example;
-mod lines;
 mod long;
 mod owner;
 mod records;
 mod seeded;
-mod table;
 mod threads;

@@ -1,8 +1,7 @@
-//! Tests of page caches, over readers in memory and over files, and of a pool of open files.
+//! Tests of page caches, over a reader in memory and over files, and of a pool of open files.
 
 mod files;
 mod fours;
 mod in_memory;
 mod pool;
 mod scratch;
-mod threads;

@@ -2,7 +2,6 @@
 //! models.
 
 mod corners;
-mod example;
 mod five_uses;
 mod model;
 mod sampled;

@@ -1,124 +1,88 @@
-//! The answers of a journal and its twin to a call, as plain data, so that they can stand in
-//! tables.
-//!
-//! The calls are those of `lru_support`; the replies are those of the records.
+//! The answers of a journal and its twin to a call, in a form that can be compared.
 
-use concurrent_lru::lru_core::{Begun, Failed, Refusal};
-use lru_journal::journal::{Pin, Started, Told};
+use concurrent_lru::lru_core::{Failed, Refusal};
+use lru_journal::journal::Told;
 use std::sync::Arc;
 
-/// The value of the pin that a release is passed. A release uses only the pin's stamp.
-pub(crate) const PINNED: u64 = 77;
-
-/// The answer to a call.
+/// The reply to a call, or its refusal, and the value or the key that was returned with it.
 #[derive(Clone, Copy, Debug, PartialEq, Eq)]
-pub(crate) enum Answer {
-    /// The reply.
-    Says(Told),
-    /// The reply with the value of the entry, or the key of a removed one.
-    Gives(Told, u64),
-    /// A refusal.
-    Refused(Refusal),
-    /// To `Ready`, `Release` and `ReleaseAndEvict`: a refusal, and the stamp and the value that
-    /// were returned with it.
-    Back(Refusal, u64, u64),
-    /// To `Insert` and `InsertStrictly`: a refusal, and the value that was returned with it.
-    NotInserted(Refusal, u64),
-    /// The call was not made: one at charge 0, or one that journals do not have.
-    Unmade,
+pub(crate) struct Answer {
+    pub(crate) told: Result<Told, Refusal>,
+    pub(crate) value: Option<u64>,
 }
 
 impl Answer {
-    /// Returns the answer to a call that may be refused.
-    pub(crate) fn of<T>(told: Result<T, Refusal>) -> Answer
-    where
-        Answer: From<T>,
-    {
+    /// A reply without a value.
+    pub(crate) fn says(told: Told) -> Answer {
+        Answer {
+            told: Ok(told),
+            value: None,
+        }
+    }
+
+    /// A reply with a value or a key.
+    pub(crate) fn gives(told: Told, value: u64) -> Answer {
+        Answer {
+            told: Ok(told),
+            value: Some(value),
+        }
+    }
+
+    /// A refusal without a value.
+    pub(crate) fn refused(refusal: Refusal) -> Answer {
+        Answer {
+            told: Err(refusal),
+            value: None,
+        }
+    }
+
+    /// A refusal that returned the value that was passed in.
+    pub(crate) fn returned(refusal: Refusal, value: u64) -> Answer {
+        Answer {
+            told: Err(refusal),
+            value: Some(value),
+        }
+    }
+
+    /// The answer to a call that replies only that it is done.
+    pub(crate) fn done<T: Drop>(told: Result<T, Refusal>) -> Answer {
         match told {
-            Ok(told) => Answer::from(told),
-            Err(refusal) => Answer::Refused(refusal),
+            Ok(_) => Answer::says(Told::Done),
+            Err(refusal) => Answer::refused(refusal),
         }
     }
-}
 
-impl From<Begun<u64>> for Answer {
-    fn from(begun: Begun<u64>) -> Answer {
-        match begun {
-            Begun::Make(stamp) => Answer::Says(Told::Make(stamp)),
-            Begun::Wait(stamp) => Answer::Says(Told::Wait(stamp)),
-            Begun::Hit(stamp, value) => Answer::Gives(Told::Hit(stamp), *value),
+    /// The answer to a ready.
+    pub(crate) fn ready(told: Result<(), (Refusal, Arc<u64>)>) -> Answer {
+        match told {
+            Ok(()) => Answer::says(Told::Done),
+            Err((refusal, value)) => Answer::returned(refusal, *value),
         }
     }
-}
 
-impl From<Started<u64>> for Answer {
-    fn from(started: Started<u64>) -> Answer {
-        match started {
-            Started::Make(stamp) => Answer::Says(Told::Make(stamp)),
-            Started::Wait(stamp) => Answer::Says(Told::Wait(stamp)),
-            Started::Hit(pin) => Answer::Gives(Told::Hit(pin.stamp()), *pin.value()),
+    /// The answer to a fail.
+    pub(crate) fn failed(told: Result<Failed<u64>, Refusal>) -> Answer {
+        match told {
+            Ok(Failed::Left) => Answer::says(Told::Left),
+            Ok(Failed::Removed(key)) => Answer::gives(Told::Removed, key),
+            Err(refusal) => Answer::refused(refusal),
         }
     }
-}
 
-impl From<Failed<u64>> for Answer {
-    fn from(failed: Failed<u64>) -> Answer {
-        match failed {
-            Failed::Left => Answer::Says(Told::Left),
-            Failed::Removed(key) => Answer::Gives(Told::Removed, key),
+    /// The answer to a read whose reader copies the value.
+    pub(crate) fn read(told: Result<Option<(u64, u64)>, Refusal>) -> Answer {
+        match told {
+            Ok(Some((stamp, value))) => Answer::gives(Told::Found(stamp), value),
+            Ok(None) => Answer::says(Told::Missed),
+            Err(refusal) => Answer::refused(refusal),
         }
     }
-}
 
-impl From<Option<(u64, Arc<u64>)>> for Answer {
-    fn from(found: Option<(u64, Arc<u64>)>) -> Answer {
-        match found {
-            Some((stamp, value)) => Answer::Gives(Told::Found(stamp), *value),
-            None => Answer::Says(Told::Missed),
+    /// The answer to a question for the total.
+    pub(crate) fn total(told: Result<u64, Refusal>) -> Answer {
+        match told {
+            Ok(total) => Answer::says(Told::Total(total)),
+            Err(refusal) => Answer::refused(refusal),
         }
-    }
-}
-
-// The answer to a read: no pin, and the value that its reader copied.
-impl From<Option<(u64, u64)>> for Answer {
-    fn from(found: Option<(u64, u64)>) -> Answer {
-        match found {
-            Some((stamp, value)) => Answer::Gives(Told::Found(stamp), value),
-            None => Answer::Says(Told::Missed),
-        }
-    }
-}
-
-impl From<Option<Pin<u64>>> for Answer {
-    fn from(found: Option<Pin<u64>>) -> Answer {
-        match found {
-            Some(pin) => Answer::Gives(Told::Found(pin.stamp()), *pin.value()),
-            None => Answer::Says(Told::Missed),
-        }
-    }
-}
-
-// The answer to a repin by a journal, which returns the value, and by a twin.
-impl From<Arc<u64>> for Answer {
-    fn from(value: Arc<u64>) -> Answer {
-        Answer::Gives(Told::Done, *value)
-    }
-}
-
-impl From<Pin<u64>> for Answer {
-    fn from(pin: Pin<u64>) -> Answer {
-        Answer::Gives(Told::Done, *pin.value())
-    }
-}
-
-impl From<u64> for Answer {
-    fn from(total: u64) -> Answer {
-        Answer::Says(Told::Total(total))
-    }
-}
-
-impl From<()> for Answer {
-    fn from(_: ()) -> Answer {
-        Answer::Says(Told::Done)
     }
 }

@@ -1,152 +1,95 @@
-//! Calls on a journal for a single owner, and what each call evicts.
+//! Calls on a journal for a single owner.
 ghost use Rattle.std.specs.Prelude.{◌<◌};
 
-use crate::journal::answer::{Answer, PINNED};
+use crate::journal::answer::Answer;
 use concurrent_lru::lru_core::{Begun, Evicted, Inserted, Refusal};
 use lru_journal::journal::{Journal, Told};
 use lru_support::tables::Call;
 use std::alloc::{AllocError, Global};
 use std::sync::Arc;
 
-/// The answer of a journal to a call, and what left the cache.
-#[derive(Drop)]
-pub(crate) struct Heard {
-    pub(crate) answer: Answer,
-    replaced: Option<Evicted<u64, u64>>,
-    evicted: Option<Evicted<u64, u64>>,
-}
-
-impl Heard {
-    fn evicts(told: Result<Evicted<u64, u64>, Refusal>) -> Heard {
-        match told {
-            Ok(evicted) => Heard::of(Answer::Says(Told::Done), evicted),
-            Err(refusal) => Heard::from(Answer::Refused(refusal)),
-        }
-    }
-
-    fn of(answer: Answer, evicted: Evicted<u64, u64>) -> Heard {
-        Heard {
-            answer,
-            replaced: None,
-            evicted: Some(evicted),
-        }
-    }
-
-    /// Returns the stamps and keys of the entries that left: the replaced one, and then those that
-    /// were evicted, oldest first.
-    pub(crate) fn gone(self, alloc: Global) -> Result<Vec<(u64, u64)>, AllocError> {
-        let mut all = Vec::new(alloc);
-        for left in [self.replaced, self.evicted] {
-            if let Some(left) = left {
-                push_all(&mut all, left)?;
-            }
-        }
-        Ok(all)
-    }
-}
-
-fn push_all(all: &mut Vec<(u64, u64)>, left: Evicted<u64, u64>) -> Result<(), AllocError> {
-    for gone in left {
-        all.push((gone.stamp, gone.key))?;
-    }
-    Ok(())
-}
-
-impl From<Answer> for Heard {
-    fn from(answer: Answer) -> Heard {
-        Heard {
-            answer,
-            replaced: None,
-            evicted: None,
-        }
-    }
-}
-
-/// Makes a call on the journal. Returns `AllocError` if a value's memory is refused.
+/// Makes a call on the journal. Returns `None` for a call that journals do not have, or at the
+/// charge 0, and `AllocError` if a value's memory is refused.
 pub(crate) fn ask(
     alloc: Global,
     journal: &mut Journal<u64, u64>,
     call: Call,
-) -> Result<Heard, AllocError> {
-    match call {
-        Call::Ready(stamp, value) => Ok(Heard::from(ready(
-            journal,
-            stamp,
-            Arc::new(alloc, value)?,
-        ))),
-        Call::Insert(..) | Call::InsertStrictly(..) => insert(alloc, journal, call),
-        Call::Begin(key, charge) if charge > 0 => Ok(begun(journal.begin(&key, charge))),
+) -> Result<Option<Answer>, AllocError> {
+    let answer = match call {
+        Call::Begin(key, charge) if charge > 0 => begun(journal.begin(&key, charge)),
         Call::BeginStrictly(key, charge) if charge > 0 => {
-            Ok(begun(journal.begin_strictly(&key, charge)))
+            begun(journal.begin_strictly(&key, charge))
         }
-        Call::Release(stamp) => Ok(released(journal.release(stamp), stamp)),
-        Call::ReleaseAndEvict(stamp) => Ok(released(journal.release_and_evict(stamp), stamp)),
-        Call::AdviceEvict(key) => Ok(Heard::evicts(journal.advice_evict(&key))),
-        Call::Invalidate(key) => Ok(Heard::evicts(journal.invalidate(&key))),
-        Call::Prune => Ok(Heard::evicts(journal.prune())),
-        Call::SetCapacity(capacity) => Ok(Heard::evicts(journal.set_capacity(capacity))),
-        _ => Ok(Heard::from(ask_in_place(journal, call))),
-    }
-}
-
-// Makes a call that evicts nothing.
-fn ask_in_place(journal: &mut Journal<u64, u64>, call: Call) -> Answer {
-    match call {
-        Call::Poll(stamp) => Answer::of(journal.poll(stamp)),
-        Call::Fail(stamp) => Answer::of(journal.fail(stamp)),
-        Call::Get(key) => Answer::of(journal.get(&key)),
-        Call::Read(key) => Answer::of(journal.read(&key, |value| *value)),
-        Call::Repin(stamp) => Answer::of(journal.repin(stamp)),
-        Call::Total => Answer::of(journal.total()),
-        _ => Answer::Unmade,
-    }
-}
-
-fn begun(told: Result<(Begun<u64>, Evicted<u64, u64>), Refusal>) -> Heard {
-    match told {
-        Ok((begun, evicted)) => Heard::of(Answer::from(begun), evicted),
-        Err(refusal) => Heard::from(Answer::Refused(refusal)),
-    }
-}
-
-fn ready(journal: &mut Journal<u64, u64>, stamp: u64, value: Arc<u64>) -> Answer {
-    match journal.ready(stamp, value) {
-        Ok(()) => Answer::Says(Told::Done),
-        Err((refusal, value)) => Answer::Back(refusal, stamp, *value),
-    }
-}
-
-// A journal is passed only the stamp: the value stays with the holder of the pin.
-fn released(told: Result<Evicted<u64, u64>, Refusal>, stamp: u64) -> Heard {
-    match told {
-        Ok(evicted) => Heard::of(Answer::Says(Told::Done), evicted),
-        Err(refusal) => Heard::from(Answer::Back(refusal, stamp, PINNED)),
-    }
-}
-
-// Makes an insertion.
-fn insert(alloc: Global, journal: &mut Journal<u64, u64>, call: Call) -> Result<Heard, AllocError> {
-    match call {
         Call::Insert(key, charge, value) if charge > 0 => {
-            let told = journal.insert(&key, charge, Arc::new(alloc, value)?);
-            Ok(inserted(told, value))
+            inserted(journal.insert(&key, charge, Arc::new(alloc, value)?), value)
         }
         Call::InsertStrictly(key, charge, value) if charge > 0 => {
             let told = journal.insert_strictly(&key, charge, Arc::new(alloc, value)?);
-            Ok(inserted(told, value))
+            inserted(told, value)
         }
-        _ => Ok(Heard::from(Answer::Unmade)),
+        Call::Ready(stamp, value) => {
+            Answer::ready(journal.ready(stamp, Arc::new(alloc, value)?))
+        }
+        other => return Ok(ask_with_numbers(journal, other)),
+    };
+    Ok(Some(answer))
+}
+
+// Makes a call whose arguments are plain numbers, at no charge.
+fn ask_with_numbers(journal: &mut Journal<u64, u64>, call: Call) -> Option<Answer> {
+    let answer = match call {
+        Call::Poll(stamp) => polled(journal.poll(stamp)),
+        Call::Fail(stamp) => Answer::failed(journal.fail(stamp)),
+        Call::Get(key) => found(journal.get(&key)),
+        Call::Read(key) => Answer::read(journal.read(&key, |value| *value)),
+        Call::Release(stamp) => Answer::done(journal.release(stamp)),
+        Call::ReleaseAndEvict(stamp) => Answer::done(journal.release_and_evict(stamp)),
+        Call::Repin(stamp) => repinned(journal.repin(stamp)),
+        Call::AdviceEvict(key) => Answer::done(journal.advice_evict(&key)),
+        Call::Invalidate(key) => Answer::done(journal.invalidate(&key)),
+        Call::Prune => Answer::done(journal.prune()),
+        Call::SetCapacity(capacity) => Answer::done(journal.set_capacity(capacity)),
+        Call::Total => Answer::total(journal.total()),
+        _ => return None,
+    };
+    Some(answer)
+}
+
+fn begun(told: Result<(Begun<u64>, Evicted<u64, u64>), Refusal>) -> Answer {
+    match told {
+        Ok((begun, _evicted)) => polled(Ok(begun)),
+        Err(refusal) => Answer::refused(refusal),
     }
 }
 
-// The new entry's value is the one that was given.
-fn inserted(told: Result<Inserted<u64, u64>, (Refusal, Arc<u64>)>, value: u64) -> Heard {
+fn polled(told: Result<Begun<u64>, Refusal>) -> Answer {
     match told {
-        Ok(inserted) => Heard {
-            answer: Answer::Gives(Told::Inserted(inserted.stamp), value),
-            replaced: Some(inserted.replaced),
-            evicted: Some(inserted.evicted),
-        },
-        Err((refusal, value)) => Heard::from(Answer::NotInserted(refusal, *value)),
+        Ok(Begun::Make(stamp)) => Answer::says(Told::Make(stamp)),
+        Ok(Begun::Wait(stamp)) => Answer::says(Told::Wait(stamp)),
+        Ok(Begun::Hit(stamp, value)) => Answer::gives(Told::Hit(stamp), *value),
+        Err(refusal) => Answer::refused(refusal),
+    }
+}
+
+fn found(told: Result<Option<(u64, Arc<u64>)>, Refusal>) -> Answer {
+    match told {
+        Ok(Some((stamp, value))) => Answer::gives(Told::Found(stamp), *value),
+        Ok(None) => Answer::says(Told::Missed),
+        Err(refusal) => Answer::refused(refusal),
+    }
+}
+
+fn repinned(told: Result<Arc<u64>, Refusal>) -> Answer {
+    match told {
+        Ok(value) => Answer::gives(Told::Done, *value),
+        Err(refusal) => Answer::refused(refusal),
+    }
+}
+
+// The new entry's value is the one that was passed in.
+fn inserted(told: Result<Inserted<u64, u64>, (Refusal, Arc<u64>)>, value: u64) -> Answer {
+    match told {
+        Ok(inserted) => Answer::gives(Told::Inserted(inserted.stamp), value),
+        Err((refusal, value)) => Answer::returned(refusal, *value),
     }
 }

@@ -1,9 +1,17 @@
-//! The text of each kind of record.
+//! Records as text.
 
 use crate::assertions::assert_equal;
-use crate::journal::lines::lines;
 use lru_journal::journal::{Record, Recorded, Told};
 use std::alloc::{AllocError, Global};
+
+/// Returns the texts of the records, each followed by a line feed.
+pub(crate) fn lines(alloc: Global, records: &[Record<u64>]) -> Result<String, AllocError> {
+    let mut text = String::new(alloc);
+    for record in records {
+        text.push_str(&format!(in alloc; "{record}\n")?)?;
+    }
+    Ok(text)
+}
 
 fn record(step: Recorded<u64>, reply: Told) -> Record<u64> {
     Record { step, reply }

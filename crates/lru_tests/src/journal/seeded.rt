@@ -5,8 +5,10 @@ ghost use Rattle.std.specs.Prelude.{◌≡◌};
 
 use crate::assertions::assert_equal_at;
 use crate::journal::answer::Answer;
+use crate::journal::records::lines;
 use crate::journal::{caller, owner};
-use lru_journal::journal::{Identity, Journal, Opening, Record, Tally, Told, Twin};
+use concurrent_lru::lru_core::Refusal;
+use lru_journal::journal::{Identity, Journal, Opening, Tally, Told, Twin};
 use lru_support::tables::Call;
 use rand_core::{Rng, SeedableRng};
 use rand_xoshiro::Xoshiro256PlusPlus;
@@ -49,51 +51,59 @@ impl Draws {
 
     // Returns a call on one of six keys or of the last pins.
     fn draw(&mut self) -> Call {
-        let kind = self.generator.next_u64() % 21;
         let key = self.generator.next_u64() % 6;
         let number = self.generator.next_u64() % 8;
         let stamp = self.pins[(self.generator.next_u64() % 4) as usize];
-        let begin = Call::Begin(key, 1 + number % 3);
-        let calls = [
-            Call::Poll(stamp),
-            Call::Ready(stamp, number),
-            Call::Fail(stamp),
-            Call::Release(stamp),
-            Call::Get(key),
-            Call::Get(key),
-            Call::Read(key),
-            Call::Read(key),
-            Call::AdviceEvict(key),
-            Call::Invalidate(key),
-            Call::Insert(key, 1 + number % 3, number),
-            Call::Insert(key, 1 + number % 3, number),
+        let charge = 1 + number % 3;
+        match self.generator.next_u64() % 24 {
+            0..=4 => Call::Begin(key, charge),
+            5 => Call::BeginStrictly(key, charge),
+            6 => Call::Poll(stamp),
+            7 => Call::Ready(stamp, number),
+            8 => Call::Fail(stamp),
+            9 | 10 => Call::Get(key),
+            11 | 12 => Call::Read(key),
+            13 => Call::Release(stamp),
+            14 => Call::ReleaseAndEvict(stamp),
+            15 => Call::Repin(stamp),
+            16 => Call::AdviceEvict(key),
+            17 => Call::Invalidate(key),
+            18 => Call::Insert(key, charge, number),
             // Refused, unless nothing stays beside it.
-            Call::Insert(key, u64::MAX, number),
-            Call::Prune,
-            Call::SetCapacity(4 + number),
-            Call::Total,
-            begin,
-            begin,
-            begin,
-            begin,
-            begin,
-        ];
-        calls[kind as usize]
+            19 => Call::Insert(key, u64::MAX, number),
+            20 => Call::InsertStrictly(key, charge, number),
+            21 => Call::Prune,
+            22 => Call::SetCapacity(4 + number),
+            _ => Call::Total,
+        }
     }
 
     // Keeps the stamp if the call returned a pin, and has the oldest pin released.
     fn note(&mut self, call: Call, answer: Answer) {
-        if let Call::Begin(..) | Call::Get(_) | Call::Insert(..) = call
-            && let Answer::Says(Told::Make(stamp) | Told::Wait(stamp))
-            | Answer::Gives(
-                Told::Hit(stamp) | Told::Found(stamp) | Told::Inserted(stamp),
-                _,
-            ) = answer
-        {
+        if let Some(stamp) = pinned(call, answer) {
             let [oldest, one, two, three] = self.pins;
             self.pins = [one, two, three, stamp];
             self.due = Some(Call::Poll(oldest));
         }
+    }
+}
+
+// Returns the stamp of the entry that a call pinned, if it pinned one.
+fn pinned(call: Call, answer: Answer) -> Option<u64> {
+    match (call, answer.told) {
+        (Call::Poll(_) | Call::Read(_), _) => None,
+        (Call::Repin(stamp), Ok(_)) => Some(stamp),
+        (
+            _,
+            Ok(
+                Told::Make(stamp)
+                | Told::Wait(stamp)
+                | Told::Hit(stamp)
+                | Told::Found(stamp)
+                | Told::Inserted(stamp),
+            ),
+        ) => Some(stamp),
+        _ => None,
     }
 }
 
@@ -126,8 +136,10 @@ fn compare<I: Identity, R: Wait + Abort>(
     let mut journal = Journal::new(alloc, CAPACITY);
     let (cache, mut tally) = Twin::<u64, u64, &R, I>::new(alloc, rt, opening);
     answer_alike(rt, alloc, &cache, &mut tally, &mut journal, seed);
-    let recorded = cache.into_journal(tally);
-    compare_records(rt, alloc, recorded.records(), journal.records(), seed)
+    let recorded = lines(alloc, cache.into_journal(tally).records())?;
+    let wanted = lines(alloc, journal.records())?;
+    assert_equal_at(rt, &recorded, &wanted, ("the records of seed", seed));
+    Ok(())
 }
 
 // Makes 300 calls on a twin and on a journal, and compares the answers.
@@ -144,39 +156,12 @@ fn answer_alike<I: Identity, R: Wait + Abort>(
     let mut draws = Draws::from_seed(seed);
     for number in 0..300u32 {
         let call = draws.next();
+        let place = ("call", number, "of seed", seed, call);
         let answer = caller::ask(alloc, cache, tally, call).expect(rt, "memory");
-        let wanted = answer_of(rt, alloc, journal, call);
-        assert_equal_at(rt, answer, wanted, ("call", number, "of seed", seed, call));
+        let wanted = owner::ask(alloc, journal, call).expect(rt, "memory");
+        assert_equal_at(rt, answer, wanted, place);
+        let answer = answer.expect(rt, "a call that both have");
+        assert!(rt; answer.told != Err(Refusal::Memory), "at {place:?}");
         draws.note(call, answer);
     }
-}
-
-// Returns the answer of the journal. Aborts if a value's memory is refused.
-fn answer_of<R: Abort>(
-    rt: &R,
-    alloc: Global,
-    journal: &mut Journal<u64, u64>,
-    call: Call,
-) -> Answer {
-    owner::ask(alloc, journal, call).expect(rt, "memory").answer
-}
-
-// Compares the records one by one, as text.
-fn compare_records<R: Abort>(
-    rt: &R,
-    alloc: Global,
-    records: &[Record<u64>],
-    wanted: &[Record<u64>],
-    seed: u64,
-) -> Result<(), Fail> {
-    for (number, (record, wanted)) in records.iter().zip(wanted).enumerate() {
-        assert_equal_at(
-            rt,
-            format!(in alloc; "{record}")?,
-            format!(in alloc; "{wanted}")?,
-            ("record", number, "of seed", seed),
-        );
-    }
-    assert_equal_at(rt, records.len(), wanted.len(), ("records of seed", seed));
-    Ok(())
 }

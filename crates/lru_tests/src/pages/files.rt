@@ -7,7 +7,6 @@ use lru_pages::{Fault, FileBlocks, OpenError, PageCache, ReadAt};
 use std::alloc::{AllocError, Global};
 use std::fs::{File, Files, OpenOptions};
 use std::io::ErrorKind;
-use std::num::NonZeroU64;
 use std::path::AsPath;
 use std::process::Abort;
 use std::sync::Wait;
@@ -108,71 +107,6 @@ impl Told {
     }
 }
 
-// A source whose byte at each position is the position modulo 251.
-#[derive(Drop)]
-struct Places;
-
-impl ReadAt for Places {
-    fn fill(&self, buf: &mut [u8], offset: u64) -> io::Result<()> {
-        for (place, byte) in (offset..).zip(buf) {
-            *byte = (place % 251) as u8;
-        }
-        Ok(())
-    }
-}
-
-// Requests a page of this many bytes in blocks of a size. Returns the answer and the number of
-// pages then.
-fn told_of<R: Wait + Drop>(
-    alloc: Global,
-    rt: R,
-    len: u64,
-    size: NonZeroU64,
-    number: u64,
-) -> (Told, u64) {
-    let reader = FileBlocks::new(alloc, Places, len, size.get());
-    let pages = PageCache::new(alloc, rt, &reader, 3);
-    (Told::of(&pages, number), pages.total_charge())
-}
-
-#[test]
-fn the_last_block_is_short(rt: HostRuntime) {
-    let size = NonZeroU64::new(32).expect(&rt, "a size");
-    let cases = [
-        (0, 0, Told::PastEnd),
-        (1, 0, Told::Bytes(1, Some(0))),
-        (31, 0, Told::Bytes(31, Some(30))),
-        (32, 0, Told::Bytes(32, Some(31))),
-        (32, 1, Told::PastEnd),
-        (33, 0, Told::Bytes(32, Some(31))),
-        (33, 1, Told::Bytes(1, Some(32))),
-        (33, 2, Told::PastEnd),
-        (33, u64::MAX, Told::PastEnd),
-        (64, 1, Told::Bytes(32, Some(63))),
-    ];
-    for (len, number, told) in cases {
-        let total = match told {
-            Told::Bytes(..) => 1,
-            _ => 0,
-        };
-        assert_equal_at(
-            &rt,
-            told_of(rt.alloc(), &rt, len, size, number),
-            (told, total),
-            ("block", number, "of", len, "bytes"),
-        );
-    }
-}
-
-#[test]
-fn a_block_past_all_memory_leaves_nothing(rt: HostRuntime) {
-    assert_equal(
-        &rt,
-        told_of(rt.alloc(), &rt, u64::MAX, NonZeroU64::MAX, 0),
-        (Told::NoMemory, 0),
-    );
-}
-
 // Requests the page of block 1 once the file has this many bytes. Returns the answer and the number
 // of pages then.
 fn told_at<R: Wait>(file: &File, pages: &PageCache<'_, FileBlocks, R>, len: u64) -> (Told, u64) {
@@ -235,30 +169,39 @@ impl ReadAt for Worn {
     }
 }
 
-// The answers to the requests for one page of such a source, in order, and the number of pages
-// then.
-const READS: [(Told, u64); 3] = [
-    (Told::Failed(ErrorKind::TimedOut), 0),
-    (Told::Short, 0),
-    (Told::Bytes(4, Some(7)), 1),
-];
+fn make_worn() -> Worn {
+    Worn {
+        reads: AtomicU64::new(0),
+    }
+}
 
-fn wear<R: Wait + Abort>(rt: &R, alloc: Global, reader: &FileBlocks<Worn>) {
+// Requests these pages of a reader, and compares the answers, and the number of pages after each.
+fn tells<R: Wait + Abort>(
+    rt: &R,
+    alloc: Global,
+    reader: &FileBlocks<Worn>,
+    rows: &[(u64, Told, u64)],
+) {
     let pages = PageCache::new(alloc, rt, reader, 3);
-    for (told, total) in READS {
-        assert_equal(rt, Told::of(&pages, 0), told);
-        assert_equal(rt, pages.total_charge(), total);
+    for (number, told, total) in rows {
+        assert_equal_at(rt, Told::of(&pages, *number), *told, ("page", number));
+        assert_equal_at(rt, pages.total_charge(), *total, ("pages after", number));
     }
 }
 
 #[test]
-fn a_read_that_fails_leaves_nothing(rt: HostRuntime) {
-    let worn = Worn {
-        reads: AtomicU64::new(0),
-    };
-    let reader = FileBlocks::new(rt.alloc(), worn, 4, 4);
-    wear(&rt, rt.alloc(), &reader);
-    assert_equal(&rt, reader.source().reads.load(Ordering::SeqCst), 3);
+fn a_fault_leaves_no_page(rt: HostRuntime) {
+    let reader = FileBlocks::new(rt.alloc(), make_worn(), 6, 4);
+    let rows = [
+        (2, Told::PastEnd, 0),
+        (0, Told::Failed(ErrorKind::TimedOut), 0),
+        (0, Told::Short, 0),
+        (0, Told::Bytes(4, Some(7)), 1),
+        (1, Told::Bytes(2, Some(7)), 2),
+    ];
+    tells(&rt, rt.alloc(), &reader, &rows);
+    let reader = FileBlocks::new(rt.alloc(), make_worn(), u64::MAX, u64::MAX);
+    tells(&rt, rt.alloc(), &reader, &[(0, Told::NoMemory, 0)]);
 }
 
 // Returns why a path is not opened, or `None` if it is.

@@ -1,21 +1,19 @@
 //! A reader over memory: its blocks are four equal bytes, and it records which were requested.
-ghost use Rattle.std.specs.Prelude.{◌≡◌, ◌+◌, ◌≤◌, ℕ, replicate};
+ghost use Rattle.std.specs.Prelude.{◌≡◌, ℕ, replicate};
 
 use lru_pages::Blocks;
 use std::alloc::Global;
 use std::sync::{Mutex, Wait};
 
-/// The number of blocks.
-pub(crate) const COUNT: u8 = 8;
+// The number of blocks.
+const COUNT: u64 = 8;
 
-/// Blocks of four bytes each: block n has `first` and n.
+/// Blocks of four bytes each, which are the block's number.
 #[derive(Drop)]
 pub(crate) struct Fours<R: Wait> {
     rt: R,
     alloc: Global,
-    first: u8,
     asked: Mutex<Vec<u64>>,
-    ghost fits: { first + 8 ≤ 256 },
 }
 
 /// Why there is no block.
@@ -29,13 +27,10 @@ pub(crate) enum Fault {
 
 impl<R: Wait> Fours<R> {
     /// Creates a reader without requests.
-    pub(crate) fn new(alloc: Global, rt: R, first: u8) -> Fours<R>
-        requires { first + 8 ≤ 256 }
-    {
+    pub(crate) fn new(alloc: Global, rt: R) -> Fours<R> {
         Fours {
             rt,
             alloc,
-            first,
             asked: Mutex::new(Vec::new(alloc)),
         }
     }
@@ -49,16 +44,15 @@ impl<R: Wait> Fours<R> {
 impl<R: Wait> Blocks for Fours<R> {
     type Fault = Fault;
 
-    ghost is_block = { λ fours number bytes. bytes ≡ replicate 4 (fours.first + number) };
+    ghost is_block = { λ _ number bytes. bytes ≡ replicate 4 number };
 
     fn block(&self, number: u64) -> Result<Vec<u8>, Fault> {
         let Ok(()) = self.asked.lock(&self.rt).push(number) else {
             return Err(Fault::Memory);
         };
-        if number >= u64::from(COUNT) {
+        if number >= COUNT {
             return Err(Fault::Absent);
         }
-        let byte = self.first + number as u8;
-        vec![in self.alloc; byte; 4].map_err(|_| Fault::Memory)
+        vec![in self.alloc; number as u8; 4].map_err(|_| Fault::Memory)
     }
 }

@@ -1,16 +1,16 @@
 //! An example of a loader that returns the system's errors: a pool of open files by path.
 
 use crate::assertions::assert_equal;
+use crate::pages::scratch;
 use concurrent_lru::unsharded::{CacheHandle, GetError, LruCache};
 use std::alloc::{AllocError, Global};
 use std::fs::{File, Files};
 use std::io::ErrorKind;
 use std::os::unix::fs::FileExt;
-use std::path::{Path, PathBuf};
+use std::path::Path;
 use std::process::Abort;
-use std::rt::Env;
 use std::sync::Wait;
-use std::{env, fs, io};
+use std::{fs, io};
 
 /// Open files by path: one that is being read stays open, and an unused one does while at most
 /// `capacity` are open in all.
@@ -69,20 +69,10 @@ fn first(file: &File) -> Option<u8> {
     }
 }
 
-// Creates two files, and returns their paths.
-fn two_files<F: Files + Env + AllocGlobal>(rt: &F) -> io::Result<(PathBuf, PathBuf)> {
-    let folder = env::temp_dir(rt)?;
-    let fruit = folder.join(rt.alloc(), "lru_tests_fruit")?;
-    let roots = folder.join(rt.alloc(), "lru_tests_roots")?;
-    fs::write(rt, fruit.as_path(), "apples and pears")?;
-    fs::write(rt, roots.as_path(), "carrots")?;
-    Ok((fruit, roots))
-}
-
-// Holds the first file while the second is read.
-fn hold_one<A: Abort, F: Files<File = File>, R: Wait>(
-    rt: &A,
-    pool: &Pool<'_, F, R>,
+// Reads two files by a pool that keeps one of them open.
+fn read_two<R: Abort + Files<File = File> + Wait>(
+    rt: &R,
+    pool: &Pool<'_, R, &R>,
     fruit: Path<'_>,
     roots: Path<'_>,
 ) {
@@ -91,50 +81,23 @@ fn hold_one<A: Abort, F: Files<File = File>, R: Wait>(
     // The other was closed when it was released; the held one is there for the next read.
     assert_equal(rt, pool.open.total_charge(), 1);
     assert_equal(rt, first(held.value()), Some(b'a'));
-}
-
-// Gives the second file the path of the first.
-fn rename_one<A: Abort, F: Files<File = File>, R: Wait>(
-    rt: &A,
-    pool: &Pool<'_, F, R>,
-    fruit: Path<'_>,
-    roots: Path<'_>,
-) {
+    drop(held);
     // A renamed file: the pool has the one that had the path before, until it is invalidated.
     fs::rename(pool.files, roots, fruit).expect(rt, "both are there");
     assert_equal(rt, pool.first(fruit), Some(b'a'));
     pool.forget(fruit).expect(rt, "memory");
     assert_equal(rt, pool.first(fruit), Some(b'c'));
-}
-
-// Asks for a file that is not there.
-fn miss_one<A: Abort, F: Files<File = File>, R: Wait>(
-    rt: &A,
-    pool: &Pool<'_, F, R>,
-    roots: Path<'_>,
-) {
-    // Room was made before the open that fails, so nothing is open now.
+    // Room was made before the open that fails, so nothing is open then.
     let missing = pool.file(roots).err();
     assert!(rt; matches!(&missing, Some(GetError::Init(e)) if e.kind() == ErrorKind::NotFound));
     assert_equal(rt, pool.open.total_charge(), 0);
 }
 
-// Reads two files by a pool that keeps one of them open.
-fn read_two<R: Abort + Files<File = File> + Wait>(
-    rt: &R,
-    alloc: Global,
-    fruit: Path<'_>,
-    roots: Path<'_>,
-) {
-    let pool = Pool::new(alloc, rt, rt, 1);
-    hold_one(rt, &pool, fruit, roots);
-    rename_one(rt, &pool, fruit, roots);
-    miss_one(rt, &pool, roots);
-}
-
 #[test]
 fn a_pool_of_open_files(rt: HostRuntime) {
-    let (fruit, roots) = two_files(&rt).expect(&rt, "two files");
-    read_two(&rt, rt.alloc(), fruit.as_path(), roots.as_path());
+    let fruit = scratch::file(&rt, "lru_tests_fruit", b"apples and pears").expect(&rt, "a file");
+    let roots = scratch::file(&rt, "lru_tests_roots", b"carrots").expect(&rt, "a file");
+    let pool = Pool::new(rt.alloc(), &rt, &rt, 1);
+    read_two(&rt, &pool, fruit.as_path(), roots.as_path());
     fs::remove_file(&rt, fruit.as_path()).expect(&rt, "the file is there");
 }

@@ -46,8 +46,8 @@ impl Resident {
     }
 }
 
-/// Returns whether each use of a trace hits at a capacity, by a list of the resident keys.
-pub fn hits_of_a_list(
+// Returns whether each use of a trace hits at a capacity, by a list of the resident keys.
+fn hits_of_a_list(
     alloc: Global,
     trace: &[(u64, u64)],
     capacity: u64,
@@ -64,7 +64,7 @@ pub fn hits_of_a_list(
 }
 
 /// Returns the reuse weight of the use at an index, by its definition.
-pub fn weight_by_definition(
+pub(crate) fn weight_by_definition(
     alloc: Global,
     trace: &[(u64, u64)],
     place: usize,
@@ -86,9 +86,9 @@ pub fn weight_by_definition(
     Ok(None)
 }
 
-/// Returns the first of these capacities at which the reuse weights, the curve, the replay and the
-/// list of resident keys do not agree on a trace, if there is one.
-pub fn first_difference(
+/// Returns the first of these capacities at which the curve, the replay and the list of resident
+/// keys do not agree on a trace, if there is one.
+pub(crate) fn first_difference(
     alloc: Global,
     trace: &[(u64, u64)],
     capacities: &[u64],
@@ -98,18 +98,8 @@ pub fn first_difference(
         return Ok(Some(0));
     }
     let curve = Curve::new(alloc, trace, &weights)?;
-    first_differing(alloc, trace, &weights, &curve, capacities)
-}
-
-fn first_differing(
-    alloc: Global,
-    trace: &[(u64, u64)],
-    weights: &[Option<u64>],
-    curve: &Curve,
-    capacities: &[u64],
-) -> Result<Option<u64>, Refusal> {
     for capacity in capacities {
-        if differs(alloc, trace, weights, curve, *capacity)? {
+        if differs(alloc, trace, &curve, *capacity)? {
             return Ok(Some(*capacity));
         }
     }
@@ -120,7 +110,6 @@ fn first_differing(
 fn differs(
     alloc: Global,
     trace: &[(u64, u64)],
-    weights: &[Option<u64>],
     curve: &Curve,
     capacity: u64,
 ) -> Result<bool, Refusal> {
@@ -128,21 +117,8 @@ fn differs(
         return Ok(true);
     }
     let run = replay(alloc, trace, capacity)?;
-    let told = told_hits(alloc, weights, capacity)?;
     let hits = hits_of_a_list(alloc, trace, capacity)?;
-    Ok(told != hits || run != hits || !is_told(curve, trace, &hits, capacity))
-}
-
-// Returns whether each use hits, by its reuse weight.
-fn told_hits(
-    alloc: Global,
-    weights: &[Option<u64>],
-    capacity: u64,
-) -> Result<Vec<bool>, AllocError> {
-    weights
-        .iter()
-        .map(|weight| matches!(weight, Some(weight) if *weight <= capacity))
-        .collect(alloc)
+    Ok(run != hits || !is_told(curve, trace, &hits, capacity))
 }
 
 // Returns whether a curve has, at a capacity, the numbers that follow from these hits.

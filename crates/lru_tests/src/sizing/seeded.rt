@@ -1,13 +1,10 @@
 //! Traces drawn from seeds, each at 12 capacities.
 
-use crate::assertions::assert_equal;
+use crate::assertions::assert_equal_at;
 use crate::sizing::model::first_difference;
-use lru_sizing::refusal::Refusal;
 use rand_core::{Rng, SeedableRng};
 use rand_xoshiro::Xoshiro256PlusPlus;
 use std::alloc::{AllocError, Global};
-use std::ops::RangeInclusive;
-use std::process::Abort;
 
 const CAPACITIES: [u64; 12] = [0, 1, 2, 5, 10, 20, 50, 100, 150, 200, 300, 1_000];
 
@@ -28,28 +25,11 @@ fn draw(alloc: Global, seed: u64) -> Result<Vec<(u64, u64)>, AllocError> {
     Ok(trace)
 }
 
-// Returns the first seed among these whose trace gives different results, if there is one.
-fn first_seed(alloc: Global, seeds: RangeInclusive<u64>) -> Result<Option<u64>, Refusal> {
-    for seed in seeds {
-        let trace = draw(alloc, seed)?;
-        if first_difference(alloc, &trace, &CAPACITIES)?.is_some() {
-            return Ok(Some(seed));
-        }
+#[test]
+fn five_traces_are_answered_alike_by_all(rt: HostRuntime) {
+    for seed in 1..=5 {
+        let trace = draw(rt.alloc(), seed).expect(&rt, "memory");
+        let differs = first_difference(rt.alloc(), &trace, &CAPACITIES);
+        assert_equal_at(&rt, differs, Ok(None), ("seed", seed));
     }
-    Ok(None)
-}
-
-// Ends the test if the trace of one of these seeds gives different results.
-fn are_alike(rt: &impl Abort, alloc: Global, seeds: RangeInclusive<u64>) {
-    assert_equal(rt, first_seed(alloc, seeds), Ok(None));
-}
-
-#[test]
-fn ten_traces_are_answered_alike_by_all(rt: HostRuntime) {
-    are_alike(&rt, rt.alloc(), 1..=10);
-}
-
-#[test]
-fn ten_more_traces_are_answered_alike_by_all(rt: HostRuntime) {
-    are_alike(&rt, rt.alloc(), 11..=20);
 }

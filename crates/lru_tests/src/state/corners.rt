@@ -43,7 +43,7 @@ impl Corner {
 
     // Two keys are asked for, made, released and asked for again, if the numbers allow it; each
     // stamp is tried in every call, whether or not an entry has it.
-    fn calls(self) -> [Call; 51] {
+    fn calls(self) -> [Call; 40] {
         let (one, two) = self.charges;
         let first = self.first_stamp;
         let second = first.saturating_add(1);
@@ -55,29 +55,22 @@ impl Corner {
             Begin(2, two),
             Total,
             Begin(1, two),
-            Poll(first),
-            KeyOf(first),
             KeyOf(second),
             KeyOf(third),
             Ready(first, 10),
             Get(1),
-            Total,
             Release(first),
             Release(first),
             Release(first),
             Total,
-            Begin(2, two),
             Ready(second, 20),
             Poll(second),
             Release(second),
-            Release(second),
-            Total,
             Begin(3, 1),
             Fail(third),
             Fail(second),
             Begin(3, two),
             Total,
-            Get(1),
             Get(2),
             Release(first),
             Release(second),
@@ -85,22 +78,18 @@ impl Corner {
             Capacity,
             Total,
             Ready(third, 30),
-            Ready(fourth, 40),
             Release(third),
-            Release(fourth),
             Begin(1, one),
             Release(first),
-            Total,
-            AdviceEvict(2),
+            Ready(fourth, 40),
+            Release(fourth),
             SetCapacity(self.capacity),
-            Total,
-            Prune,
             Total,
             Begin(2, one),
             AdviceEvict(2),
-            Total,
             Poll(fourth),
             Fail(fourth),
+            Prune,
         ]
     }
 }

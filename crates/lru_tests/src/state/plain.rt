@@ -2,14 +2,16 @@
 //!
 //! Its answers are those expected of the cache.
 
-use crate::state::entries::Seen;
 use concurrent_lru::lru_core::Refusal;
-use lru_support::tables::{Answers, Call, text_of};
+use lru_support::tables::{Call, text_of};
 use std::alloc::{AllocError, Global};
 use std::fmt;
 
 /// The keys are the numbers below this one.
 pub(crate) const KEYS: usize = 12;
+
+/// What is shown of an entry: stamp, key, charge, pins, whether it is detached, and value.
+pub(crate) type Seen = (u64, u64, u64, u32, bool, u64);
 
 // The state of a value.
 #[derive(Clone, Copy, PartialEq, Eq)]
@@ -74,17 +76,6 @@ impl fmt::Debug for Evicted {
     }
 }
 
-// Returns the one of both that has been idle for longer. The first is idle, if there is one.
-fn older(idle: Option<Entry>, other: Entry) -> Option<Entry> {
-    if other.pins > 0 || !matches!(other.phase, Phase::Ready(_)) {
-        return idle;
-    }
-    match idle {
-        Some(entry) if entry.rested < other.rested => Some(entry),
-        _ => Some(other),
-    }
-}
-
 /// A cache of numbers by numbers below `KEYS`.
 #[derive(Drop)]
 pub(crate) struct Plain {
@@ -120,38 +111,32 @@ impl Plain {
     /// if memory is refused.
     pub(crate) fn seen(&self, alloc: Global) -> Result<Vec<Seen>, AllocError> {
         let mut seen = Vec::new(alloc);
-        for entry in &self.entries {
-            if let Phase::Ready(value) = entry.phase {
-                seen.push((
-                    entry.stamp,
-                    entry.key,
-                    entry.charge,
-                    entry.pins,
-                    entry.detached,
-                    value,
-                ))?;
+        for it in &self.entries {
+            if let Phase::Ready(value) = it.phase {
+                seen.push((it.stamp, it.key, it.charge, it.pins, it.detached, value))?;
             }
         }
         seen.sort()?;
         Ok(seen)
     }
 
+    /// Returns the number of entries, the sum of their charges, and that of the held ones.
+    pub(crate) fn sums(&self) -> (usize, u64, u64) {
+        (self.entries.len(), self.total(), self.pinned_charge())
+    }
+
+    /// Returns whether a key finds a ready entry.
+    pub(crate) fn contains(&self, key: u64) -> bool {
+        matches!(self.of_key(key), Some(entry) if matches!(entry.phase, Phase::Ready(_)))
+    }
+
     fn of_key(&self, key: u64) -> Option<Entry> {
-        for entry in &self.entries {
-            if entry.key == key && !entry.detached {
-                return Some(*entry);
-            }
-        }
-        None
+        let mut entries = self.entries.iter();
+        entries.find(|it| it.key == key && !it.detached).copied()
     }
 
     fn of_stamp(&self, stamp: u64) -> Option<Entry> {
-        for entry in &self.entries {
-            if entry.stamp == stamp {
-                return Some(*entry);
-            }
-        }
-        None
+        self.entries.iter().find(|it| it.stamp == stamp).copied()
     }
 
     fn total(&self) -> u64 {
@@ -160,6 +145,16 @@ impl Plain {
             total = total.saturating_add(entry.charge);
         }
         total
+    }
+
+    fn pinned_charge(&self) -> u64 {
+        let mut sum: u64 = 0;
+        for entry in &self.entries {
+            if entry.pins > 0 {
+                sum = sum.saturating_add(entry.charge);
+            }
+        }
+        sum
     }
 
     // Replaces the entry of a stamp.
@@ -215,7 +210,9 @@ impl Plain {
     fn oldest(&self) -> Option<Entry> {
         let mut oldest: Option<Entry> = None;
         for entry in &self.entries {
-            oldest = older(oldest, *entry);
+            if entry.pins == 0 && !matches!(oldest, Some(it) if it.rested <= entry.rested) {
+                oldest = Some(*entry);
+            }
         }
         oldest
     }
@@ -258,15 +255,9 @@ impl Plain {
         Ok((begun, Evicted([None; KEYS])))
     }
 
-    // Whether the capacity has room for the charge beside those of the entries that are not idle.
+    // Whether the capacity has room for the charge beside those of the held entries.
     fn has_capacity_for(&self, charge: u64) -> bool {
-        let mut sum: u64 = charge;
-        for entry in &self.entries {
-            if entry.pins > 0 {
-                sum = sum.saturating_add(entry.charge);
-            }
-        }
-        sum <= self.capacity
+        self.pinned_charge().saturating_add(charge) <= self.capacity
     }
 
     fn begin_strictly(&mut self, key: u64, charge: u64) -> Result<(Begun, Evicted), Refusal> {
@@ -472,10 +463,9 @@ impl Plain {
         self.capacity = capacity;
         self.settle(capacity)
     }
-}
 
-impl Answers<Call> for Plain {
-    fn answer(&mut self, alloc: Global, call: Call) -> Result<String, AllocError> {
+    /// Makes a call. Returns the text of its answer, or `AllocError` if memory is refused.
+    pub(crate) fn answer(&mut self, alloc: Global, call: Call) -> Result<String, AllocError> {
         self.pinned = None;
         match call {
             Call::Begin(key, charge) => text_of(alloc, &self.begin(key, charge)),
@@ -499,7 +489,6 @@ impl Answers<Call> for Plain {
             Call::Total => text_of(alloc, &self.total()),
             Call::Capacity => text_of(alloc, &self.capacity),
             Call::KeyOf(stamp) => text_of(alloc, &self.key_of(stamp)),
-            Call::Reserve(_) | Call::Show => String::from_str(alloc, "no such call"),
         }
     }
 }
