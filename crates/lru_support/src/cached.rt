@@ -1,11 +1,9 @@
-//! One trait for references to any of the three caches that threads share, and one for those that
-//! count each call.
+//! One trait for references to any of the three caches that threads share.
 //!
 //! Keys are `u64`. Lookups are inlined, because the benchmark times them through this trait.
 ghost use Rattle.std.specs.Prelude.{◌<◌};
 ghost use Rattle.std.specs.Fn.{FnOnceTakesAt};
 
-use concurrent_lru::counts::Counts;
 use concurrent_lru::lru_core::Refusal;
 use concurrent_lru::unsharded::GetError;
 use concurrent_lru::{sharded, unsharded};
@@ -68,23 +66,11 @@ pub trait Cached<V>: Copy {
     /// Calls `reserve`.
     fn reserve(self, entries: usize) -> Result<(), Refusal>;
 
-    /// Calls `capacity`.
-    fn capacity(self) -> u128;
-
     /// Calls `total_charge`.
     fn total_charge(self) -> u128;
 
     /// Calls `contains`.
     fn contains(self, key: u64) -> bool;
-}
-
-/// A reference to a cache that counts each call. The clock is not one, since it counts no hits.
-pub trait CountingCached<V>: Cached<V> {
-    /// Calls `counts`.
-    fn counts(self) -> Counts;
-
-    /// Calls `reset_counts`.
-    fn reset_counts(self) -> Counts;
 }
 
 impl<'a, V: Drop, R: Wait> Cached<V> for &'a unsharded::LruCache<u64, V, R> {
@@ -160,26 +146,12 @@ impl<'a, V: Drop, R: Wait> Cached<V> for &'a unsharded::LruCache<u64, V, R> {
         unsharded::LruCache::reserve(self, entries)
     }
 
-    fn capacity(self) -> u128 {
-        u128::from(unsharded::LruCache::capacity(self))
-    }
-
     fn total_charge(self) -> u128 {
         u128::from(unsharded::LruCache::total_charge(self))
     }
 
     fn contains(self, key: u64) -> bool {
         unsharded::LruCache::contains(self, &key)
-    }
-}
-
-impl<'a, V: Drop, R: Wait> CountingCached<V> for &'a unsharded::LruCache<u64, V, R> {
-    fn counts(self) -> Counts {
-        unsharded::LruCache::counts(self)
-    }
-
-    fn reset_counts(self) -> Counts {
-        unsharded::LruCache::reset_counts(self)
     }
 }
 
@@ -256,27 +228,12 @@ impl<'a, V: Drop, R: Wait, S: BuildHasher> Cached<V> for &'a sharded::LruCache<u
         sharded::LruCache::reserve(self, entries)
     }
 
-    fn capacity(self) -> u128 {
-        sharded::LruCache::capacity(self)
-    }
-
     fn total_charge(self) -> u128 {
         sharded::LruCache::total_charge(self)
     }
 
     fn contains(self, key: u64) -> bool {
         sharded::LruCache::contains(self, &key)
-    }
-}
-
-impl<'a, V: Drop, R: Wait, S: BuildHasher> CountingCached<V>
-    for &'a sharded::LruCache<u64, V, R, S> {
-    fn counts(self) -> Counts {
-        sharded::LruCache::counts(self)
-    }
-
-    fn reset_counts(self) -> Counts {
-        sharded::LruCache::reset_counts(self)
     }
 }
 
@@ -351,10 +308,6 @@ impl<'a, V: Drop, R: Wait, S: BuildHasher> Cached<V> for &'a clock::Cache<u64, V
 
     fn reserve(self, entries: usize) -> Result<(), Refusal> {
         clock::Cache::reserve(self, entries)
-    }
-
-    fn capacity(self) -> u128 {
-        clock::Cache::capacity(self)
     }
 
     fn total_charge(self) -> u128 {

@@ -73,13 +73,6 @@ impl<R: Wait + Clone + Drop> DropLog<R> {
         self.numbers.lock(&self.rt).copy()
     }
 
-    /// Returns whether exactly these were dropped since the log was created or cleared, in this
-    /// order.
-    pub fn is(&self, numbers: &[u64]) -> bool {
-        let noted = self.numbers.lock(&self.rt);
-        !noted.is_short && noted.noted.as_slice() == numbers
-    }
-
     /// Clears the log.
     pub fn clear(&self) {
         let mut noted = self.numbers.lock(&self.rt);

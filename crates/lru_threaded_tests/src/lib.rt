@@ -1,18 +1,44 @@
-//! Tests of the two caches that threads share: tables of calls of one thread, and what threads do
-//! together; and tests of the stress workload.
+//! Tests of the caches that threads share, of one lock, of shards and of the clock, and of the
+//! stress workload.
 //!
-//! They are apart from the caches, so that the crate of the caches is proved once.
+//! They are apart from the caches, so that the crates of the caches are proved once.
 #![tactic(auto)]
 
 #[cfg(test)]
 mod assertions;
 #[cfg(test)]
-mod contents;
+mod caches;
 #[cfg(test)]
-mod copies;
+mod clock;
 #[cfg(test)]
-mod sharded;
+mod crossings;
+#[cfg(test)]
+mod example;
+#[cfg(test)]
+mod flags;
+#[cfg(test)]
+mod gates;
+#[cfg(test)]
+mod handles;
+#[cfg(test)]
+mod keys;
+#[cfg(test)]
+mod makers;
+#[cfg(test)]
+mod marks;
+#[cfg(test)]
+mod meetings;
+#[cfg(test)]
+mod pool;
+#[cfg(test)]
+mod resets;
+#[cfg(test)]
+mod rows;
+#[cfg(test)]
+mod seeded;
 #[cfg(test)]
 mod stress;
 #[cfg(test)]
-mod unsharded;
+mod threaded;
+#[cfg(test)]
+mod waiting;

@@ -1,8 +1,8 @@
 //! The first calls of workers, as Rust's generator draws them.
 
 use crate::assertions::assert_equal_at;
-use lru_stress::plan::KEYS;
 use lru_support::calls::Calls;
+use lru_support::stress::plan::KEYS;
 
 const SEED: u64 = 1;
 

@@ -1,8 +1,8 @@
 //! The counts of a run, for plans of the tests' own.
 
 use crate::assertions::{assert_equal, assert_equal_at};
-use lru_stress::plan::Plan;
-use lru_stress::run::run;
+use lru_support::stress::plan::Plan;
+use lru_support::stress::run::run;
 
 // The seed, the capacity of each cache, the numbers of makings, hits and evictions of one worker
 // that makes 2,000 calls, and the greatest total, as the rules of the cache imply them.

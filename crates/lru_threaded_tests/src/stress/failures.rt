@@ -1,7 +1,7 @@
 //! The line for a failed round.
 
 use crate::assertions::assert_equal;
-use lru_stress::outcome::{Check, RoundFailure, Trouble};
+use lru_support::stress::outcome::{Check, RoundFailure, Trouble};
 use std::test::Fail;
 
 #[test]

@@ -1,0 +1,9 @@
+//! Tests of the clock alone: the limits of its numbers, each of its shards, a seeded run beside a
+//! plain cache, a storm of threads, and callers with a past.
+
+mod crossings;
+mod limits;
+mod pasts;
+mod plain;
+mod seeded;
+mod storm;
