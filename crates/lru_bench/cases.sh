@@ -51,14 +51,15 @@ CAPACITY is such a number"$'\n' \
 done
 usage="usage: lru_bench check | (plan | time) [WORD ..] [read_mostly FILE [CAPACITY]] | \
 run (lock | clock) WORKLOAD ENTRIES CALLS | \
-attack (chosen | drawn) (known | seeded | shards) KEYS | soak SEED MINUTES"$'\n'
+attack (chosen | drawn) (known | seeded | shards) KEYS | soak SEED MINUTES | refused [SCRIPT]"$'\n'
 for words in "" times "check 8" "read_mostly empty" "time \$'\xff'" "run lock hit_get 8" \
     "run hit_get 8 1" "run watch hit_get 8 1" "run lock stress 8 1" "run clock read_mostly 8 1" \
     "run lock hits 8 1" "run lock hit_get 0 1" "run clock hit_get 8 0" "run lock hit_get 8 +1" \
     "run lock hit_get 10000001 1" "run lock hit_get 8 10000001" "run lock hit_get 8 1 1" \
     "attack chosen known" "attack made known 8" "attack chosen unknown 8" "attack drawn shards 0" \
     soak "soak 1" "soak 1 0 0" "soak x 0" "soak 1 -1" "soak +1 0" "soak '' 0" \
-    "soak 18446744073709551616 0" "soak \$'\xff' 0"; do
+    "soak 18446744073709551616 0" "soak \$'\xff' 0" "refused unsharded" "refused ''" \
+    "refused 'unsharded-values '" "refused unsharded-values sharded-values"; do
     ends 2 "" "$usage" "lru_bench $words"
 done
 ends 1 "" "the file has no keys of four bytes"$'\n' "lru_bench time read_mostly empty 8"
@@ -86,8 +87,14 @@ ends 0 "rounds 0"$'\n' "" "lru_bench soak 1 0"
 ends 0 "rounds 0"$'\n' "" "lru_bench soak 18446744073709551615 0"
 ends_at_failed_writes 1 "$system" "lru_bench soak 1 0"
 
-# What follows takes long where the program was not proved.
-[ -n "${PROGRAMS:-}" ] && return
+values="script unsharded-values
+Init(1, 1, 1): Ok(Value(1))
+Init(2, 1, 2): Ok(Value(2))
+Init(1, 1, 3): Ok(Value(1))
+Total: Ok(Total(2))
+"
+ends 0 "$values" "" "lru_bench refused unsharded-values"
+ends_at_failed_writes 1 "$system" "lru_bench refused unsharded-values"
 
 ends 0 "processors N"$'\n' "" "lru_bench time 8 hit_read 2>&1 > lines | sed 's/ [1-9][0-9]*$/ N/'"
 

@@ -292,19 +292,14 @@ for word in --help -h; do
     ends 0 "$help" "" "lru_size $word < uses"
 done
 
-# a program that `rt try` compiled takes minutes for so many lines
-if [ -z "${PROGRAMS:-}" ]; then
-    errors 62906 1 126000
-    yes a | head -n 2097153 > many
-    keys="lru_size: too few keys in the sample: 0, and an estimate needs 100; choose a smaller N"
-    ends 2 "" "$keys"$'\n' "lru_size --sample 1000000 < many"
-    # the terminal, which standard error is here, shows how many lines were read
-    ends 2 $'1048576 lines read\r2097152 lines read\r'"$keys"$'\r\n' "" \
-        "script -qec 'lru_size --sample 1000000 < many > table' /dev/null"
-fi
+errors 62906 1 126000
+yes a | head -n 2097153 > many
+keys="lru_size: too few keys in the sample: 0, and an estimate needs 100; choose a smaller N"
+ends 2 "" "$keys"$'\n' "lru_size --sample 1000000 < many"
+# the terminal, which standard error is here, shows how many lines were read
+ends 2 $'1048576 lines read\r2097152 lines read\r'"$keys"$'\r\n' "" \
+    "script -qec 'lru_size --sample 1000000 < many > table' /dev/null"
 
-# The longer trace takes long where the program was not proved.
-[ -n "${PROGRAMS:-}" ] && return
 ends 0 "45391 uses of 7066 keys
 greatest hit ratio 84.43% from capacity 13960490 on
 " "" "lru_size $crate/data/rocksdb | sed -n '1p; 13p'"

@@ -1,19 +1,18 @@
 """Refuses each request for memory of the programs in turn, and checks that nothing is lost.
 
-The program `lru_no_memory` runs scripts of calls, repeats each call that was refused for lack of memory, and prints every
-answer. Each of its scripts is run here with its first request refused, then with its second, and so on, until a run makes
-no further request. A run passes if it prints what it prints with ample memory. A run that ends with status 1 and `refused 1`,
-after printing a beginning of that, met the refusal in a request of the script's own, and passes too. Anything else fails:
-another text, a fault, a run that does not end. Other programs are run in the same way, on the input with which the gate
-runs them: `lru_rows`, with its rows and with its stress workload, `lru_bench`, with its small workloads and with a soak test,
-`lru_replay`, `lru_cat` and `lru_size`. Of the requests of long runs, some are refused. Last, a word that names no script must
-get the usage line and status 2, and a run that cannot write must end with status 1.
+`lru_bench refused` runs scripts of calls, makes each call that was refused for lack of memory once
+more, and prints every answer. Each script is run here with its first request refused, then with its
+second, and so on, until a run makes no further request. Other programs are run in the same way; of
+the requests of long runs, some are refused. A run passes if it prints what it prints with ample
+memory, or if it ends with status 1 and its message for lack of memory, after printing a beginning
+of that. Anything else fails: another text, a fault, a run that does not end.
 
-The file `expected` keeps the table of which calls were refused, by script and number of the request. A call that makes a
-request more or fewer changes the table, such as one that grows a table for which room was to be made; that is a failure.
-Where the new table is right, `--write` keeps it.
+The file `expected` keeps the table of which calls were refused, by script and number of the
+request. A call that makes a request more or fewer changes the table, which is a failure; where the
+new table is right, `--write` keeps it.
 
-The programs are those that the gate proves. The library `deny.c`, loaded before the C library, refuses the one request.
+The programs are those that the gate proves. The library `deny.c`, loaded before the C library,
+refuses the one request.
 """
 import argparse
 import collections
@@ -35,30 +34,26 @@ EXPECTED = HERE / "expected"
 UNTOLD = ["unsharded-two-threads"]
 # what a program writes if a request of its own is refused, unless it writes `refused 1`
 OWN = {
-    "lru_cat": r'lru_cat: (there is no memory|cannot read ".*": (no memory|there is no memory for the block))\n',
-    "lru_replay": r"(line \d+: )?refused 1\n",
+    "examples": r"(line \d+: )?refused 1\n"
+    r"|examples: cannot read .*: (no memory|there is no memory for the block)\n"
+    r"|examples: cannot write standard output: out of memory\n",
     "lru_size": r"lru_size: out of memory\n",
 }
-# what a program writes if nothing is refused; the others write nothing
-USUAL = {"lru_cat": "4 blocks read, 9 answers from memory\n"}
 # what deny.c writes when it refuses a request
 MARK = b"this request is refused\n"
 
 
 @dataclasses.dataclass
 class Tries:
-    """What came of the runs of one program: the calls that were made again, by the request that was refused; how many runs
-    said so and ended; how many went on as if nothing was refused, as where a text does not shrink; and what failed."""
+    """What came of the runs of one program: the calls that were made again, by the request that was
+    refused; how many runs said so and ended; how many went on as if nothing was refused, as where a
+    text does not shrink; and what failed."""
 
     name: str
     calls: list = dataclasses.field(default_factory=list)
     own: int = 0
     unmet: int = 0
     failed: list = dataclasses.field(default_factory=list)
-
-    @property
-    def refused(self):
-        return len(self.calls) + self.own + self.unmet + len(self.failed)
 
 
 def built(name):
@@ -72,151 +67,130 @@ def built(name):
 def library(folder):
     """The library that refuses a request, made by the kit's compiler."""
     page = subprocess.run(["rt", "doc"], capture_output=True, text=True, check=True).stdout.strip()
-    clang = pathlib.Path(page).parent / "toolchain/bin/clang"
-    made = pathlib.Path(folder) / "deny.so"
-    linked = ["-shared", "-fPIC", "-O1", "-nostdlib", "-fuse-ld=lld", "-o", str(made), str(HERE / "deny.c")]
-    subprocess.run([str(clang), *linked], check=True)
-    return str(made)
+    made = f"{folder}/deny.so"
+    linked = ["-shared", "-fPIC", "-O1", "-nostdlib", "-fuse-ld=lld", "-o", made, HERE / "deny.c"]
+    subprocess.run([pathlib.Path(page).parent / "toolchain/bin/clang", *linked], check=True)
+    return made
 
 
-def run(program, words, refuse="", number=0, path=os.devnull):
-    """How the program ended on an input, with this request refused, if any: its status, and what it wrote on its two streams."""
+def run(program, words, path, refuse="", number=0):
+    """How the program ended on an input, with this request refused, if any: its status, and what it
+    wrote on its two streams."""
     env = {"LD_PRELOAD": refuse, "REFUSED_REQUEST": str(number)} if number else {}
+    command = [program, *words]
     try:
         with open(path, "rb") as given:
-            ran = subprocess.run([program, *words], env=env, capture_output=True, stdin=given, timeout=SECONDS)
+            ran = subprocess.run(
+                command, env=env, capture_output=True, stdin=given, timeout=SECONDS
+            )
     except subprocess.TimeoutExpired as late:
         return "no end", late.stdout or b"", MARK
     return ran.returncode, ran.stdout, ran.stderr
 
 
-def try_each(program, words, refuse, numbers=None, path=os.devnull):
-    """Refuses each request of the program in turn, or those with these numbers, until a run makes no such request."""
+def try_each(refuse, program, words, numbers=None, path=os.devnull):
+    """Refuses each request of the program in turn, or those with these numbers, until a run makes
+    no such request."""
     name = pathlib.Path(program).name
     tries = Tries(" ".join([name, *words]))
-    usual = USUAL.get(name, "")
-    status, ample, said = run(program, words, path=path)
-    if status or said.decode() != usual or not ample:
-        tries.failed.append(f"with ample memory: status {status}, {said!r}")
+    status, ample, usual = run(program, words, path)
+    if status or not ample:
+        tries.failed.append(f"with ample memory: status {status}, {usual!r}")
         return tries
     for number in numbers or itertools.count(1):
-        status, out, said = run(program, words, refuse, number, path)
+        status, out, said = run(program, words, path, refuse, number)
         if MARK not in said:
-            return tries
+            break
         said = said.replace(MARK, b"").decode()
         again = re.findall(r"^memory (.*)$", said, re.MULTILINE)
+        own = re.fullmatch(OWN.get(name, "refused 1\n"), said)
         if status == 0 and out == ample and len(again) == 1:
             tries.calls.append((number, again[0]))
-        elif status == 0 and out == ample and said == usual:
+        elif status == 0 and out == ample and said == usual.decode():
             tries.unmet += 1
-        elif status == 1 and ample.startswith(out) and re.fullmatch(OWN.get(name, "refused 1\n"), said):
+        elif status == 1 and ample.startswith(out) and own:
             tries.own += 1
         else:
-            tries.failed.append(f"request {number}: status {status}, {said!r}, and printed\n{out.decode()}")
+            tries.failed.append(f"request {number}: status {status}, {said!r}, {out.decode()!r}")
+    if not (tries.calls or tries.own or tries.unmet or tries.failed):
+        tries.failed.append("no request was refused")
     return tries
 
 
-def wrong_ends(program):
-    """The words, where the program was to write, and how it ended, of each run that did not end as it should."""
-    usage = "usage: lru_no_memory [SCRIPT]\n"
-    cases = [([word], None, 2, usage) for word in ("", "state", "state-hits ")]
-    cases += [(["state-hits", "state-hits"], None, 2, usage), (["state"], "stderr", 1, ""), (["state-hits"], "stdout", 1, "")]
-    wrong = []
-    with open("/dev/full", "w", encoding="utf-8") as full:
-        for words, blocked, status, said in cases:
-            to = {"stdout": subprocess.PIPE, "stderr": subprocess.PIPE, **({blocked: full} if blocked else {})}
-            ran = subprocess.run([program, *words], stdin=subprocess.DEVNULL, text=True, timeout=SECONDS, **to)
-            if (ran.returncode, ran.stdout or "", ran.stderr or "") != (status, "", said):
-                wrong.append(f"{words} with {blocked or 'nothing'} full: status {ran.returncode}, {ran.stderr!r}")
-    return wrong
-
-
 def ranges(numbers):
-    """The numbers, which rise, as text: those that follow one another as the first and the last of them."""
-    parts = []
-    for number in numbers:
-        if parts and parts[-1][1] == number - 1:
-            parts[-1][1] = number
-        else:
-            parts.append([number, number])
-    return ", ".join(str(first) if first == last else f"{first}-{last}" for first, last in parts)
+    """The numbers, which rise, as text: those that follow one another as the first and the last."""
+    groups = itertools.groupby(enumerate(numbers), lambda it: it[1] - it[0])
+    runs = [[number for _, number in group] for _, group in groups]
+    return ", ".join(str(it[0]) if len(it) == 1 else f"{it[0]}-{it[-1]}" for it in runs)
 
 
 def table_of(every):
-    """A line for each call of a script that was refused, with the numbers of the requests that were refused in it."""
+    """A line for each script, with the calls that were refused and the numbers of the requests."""
     lines = []
     for tries in every:
-        script = tries.name.split()[-1]
         by_call = collections.defaultdict(list)
         for number, call in tries.calls:
-            step = call.split(" ", 1)[1]
-            name = re.sub(r'^"(.*)"$', r"\1", step) if step.startswith('"') else re.match(r"\w+", step)[0]
-            by_call[name].append(number)
-        if script not in UNTOLD:
-            lines += [f"{script}: {name} {ranges(numbers)}\n" for name, numbers in by_call.items()]
+            by_call[call.split("(")[0].strip('"')].append(number)
+        script = tries.name.split()[-1]
+        if by_call and script not in UNTOLD:
+            calls = "; ".join(f"{it} {ranges(by_call[it])}" for it in sorted(by_call))
+            lines.append(f"{script}: {calls}\n")
     return sorted(lines)
 
 
-def differences(found):
-    """The lines that are in the table that is kept or in this one alone, as a diff; none where they are the same."""
-    kept = EXPECTED.read_text(encoding="utf-8").splitlines(keepends=True)
-    return [it for it in difflib.unified_diff(kept, found, EXPECTED.name, "found", n=0) if not it.startswith("@@")]
-
-
-def main():
-    words = argparse.ArgumentParser(description="Refuses each request for memory of the scripts, the rows and `lru_size` in turn.")
-    words.add_argument("--jobs", type=int, default=os.cpu_count(), help="how many programs run at once")
-    words.add_argument("--write", action="store_true", help="keep the table of the calls that were refused")
-    asked = words.parse_args()
-    os.chdir(HERE.parent.parent)
-    scripted, rows = built("lru_no_memory"), built("lru_rows")
-    # the arguments and the input with which the gate runs lru_size
-    sizing, trace = pathlib.Path("crates/lru_size/args").read_text(encoding="utf-8").split(), "crates/lru_size/stdin"
-    size = built("lru_size")
-    bench = built("lru_bench")
-    lines, steps = "crates/lru_cat/data/lines", "crates/lru_replay/stdin"
-    cat, replay = built("lru_cat"), built("lru_replay")
-    _, out, _ = run(scripted, [])
-    scripts = re.findall(r"^script (.*)$", out.decode(), re.MULTILINE)
+def runs_of(folder):
+    """The runs: a program, its words, and perhaps which requests are refused, and its input."""
+    bench, rows, size, examples = map(built, ("lru_bench", "lru_rows", "lru_size", "examples"))
+    sizing = pathlib.Path("crates/lru_size/args").read_text(encoding="utf-8").split()
+    printed = pathlib.Path(folder) / "printed"
+    printed.write_bytes(bytes(range(1, 251)) * 5)
     # the workloads make up to about 400,000 requests: the first ones are refused, and then a few,
     # farther and farther apart
     some = [*range(1, 21), *(100 * 2**power for power in range(13))]
-    runs = [
+    answers = run(bench, ["refused"], os.devnull)[1].decode()
+    scripts = re.findall(r"^script (.*)$", answers, re.MULTILINE)
+    return [
         (rows, ["stress", "1"], some),
         (rows, ["rows"]),
         (bench, ["check"], some),
         (bench, ["soak", "1", "0"]),
-        (size, sizing, None, trace),
-        (cat, [lines, "2"]),
-        (replay, [], some, steps),
-        *((scripted, [name]) for name in scripts),
+        (size, sizing, None, "crates/lru_size/stdin"),
+        (examples, ["cat", str(printed), "2"]),
+        (examples, ["replay"], some, "crates/examples/stdin"),
+        *((bench, ["refused", it]) for it in scripts),
     ]
-    with tempfile.TemporaryDirectory() as folder, concurrent.futures.ThreadPoolExecutor(asked.jobs) as pool:
-        refuse = library(folder)
-        every = list(pool.map(lambda it: try_each(it[0], it[1], refuse, *it[2:]), runs))
+
+
+def main():
+    words = argparse.ArgumentParser(description="Refuses each request for memory in turn.")
+    words.add_argument("--jobs", type=int, default=os.cpu_count(), help="how many runs at once")
+    words.add_argument("--write", action="store_true", help="keep the table of refused calls")
+    asked = words.parse_args()
+    os.chdir(HERE.parent.parent)
+    with (
+        tempfile.TemporaryDirectory() as folder,
+        concurrent.futures.ThreadPoolExecutor(asked.jobs) as pool,
+    ):
+        refuse, runs = library(folder), runs_of(folder)
+        every = list(pool.map(lambda it: try_each(refuse, *it), runs))
     for tries in every:
         for it in tries.failed:
             print(f"{tries.name}: {it}")
     table = table_of(every)
     if asked.write:
         EXPECTED.write_text("".join(table), encoding="utf-8")
-    changed = differences(table)
+    kept = EXPECTED.read_text(encoding="utf-8").splitlines(keepends=True)
+    changed = "".join(difflib.unified_diff(kept, table, EXPECTED.name, "found", n=0))
     if changed:
-        print("the calls that were refused are others (where these are right, .ci/no-memory --write keeps them):")
-        print("".join(changed), end="")
-    wrong = wrong_ends(scripted)
-    for it in wrong:
-        print(it)
-    quiet = [it.name for it in every if not it.refused]
-    if quiet:
-        print(f"no request was refused in: {', '.join(quiet)}")
-    count = lambda field: sum(getattr(it, field) for it in every)
-    calls, failed = sum(len(it.calls) for it in every), sum(len(it.failed) for it in every)
+        print(f"other calls were refused (if that is right, --write keeps them):\n{changed}")
+    calls, failed = (sum(len(getattr(it, part)) for it in every) for part in ("calls", "failed"))
+    own, unmet = (sum(getattr(it, part) for it in every) for part in ("own", "unmet"))
     print(
-        f"no memory: {len(scripts)} scripts and {len(every) - len(scripts)} other runs, {count('refused')} requests refused: "
-        f"{calls} calls answered Memory and were made again, {count('own')} runs said so and ended with status 1, {count('unmet')} went on without; {failed} failed"
+        f"no memory: {len(every)} programs and scripts, {calls} calls answered Memory and were "
+        f"made again, {own} runs said so and ended with status 1, {unmet} went on without; "
+        f"{failed} failed"
     )
-    return 1 if failed or changed or wrong or quiet or not scripts or not calls else 0
+    return 1 if failed or changed or not calls else 0
 
 
 sys.exit(main())

@@ -82,15 +82,11 @@ impl Attack {
         let room = self.count.get();
         let hasher = RandomState::new(rt)?;
         match self.target {
-            Target::Known => {
-                let cache: unsharded::LruCache<Pair, u64, W> = unsharded::LruCache::with_seed(
-                    alloc, wait, room, 0,
-                );
-                self.fill(&cache)?;
-                Ok(cache.len())
-            }
-            Target::Seeded => {
-                let seed = hasher.hash_one(&0);
+            Target::Known | Target::Seeded => {
+                let seed = match self.target {
+                    Target::Known => 0,
+                    _ => hasher.hash_one(&0),
+                };
                 let cache: unsharded::LruCache<Pair, u64, W> = unsharded::LruCache::with_seed(
                     alloc, wait, room, seed,
                 );

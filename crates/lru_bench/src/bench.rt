@@ -51,7 +51,7 @@ pub struct Bench<'a, R, W, O, E> {
 impl<R: Host, W: Waiter, O: Write, E: Write> Bench<'_, R, W, O, E> {
     fn run(&mut self, plan: &Plan) -> Result<(), Failure> {
         self.run_alone(plan)?;
-        for threads in &plan.threads {
+        for threads in &plan.request.threads {
             self.run_together(plan, *threads)?;
         }
         if plan.wants(Workload::Stress) {
@@ -65,7 +65,7 @@ impl<R: Host, W: Waiter, O: Write, E: Write> Bench<'_, R, W, O, E> {
 
     // The hits and misses of one thread.
     fn run_alone(&mut self, plan: &Plan) -> Result<(), Failure> {
-        for entries in &plan.entries {
+        for entries in &plan.request.entries {
             let size = Size::new(plan, *entries, 1);
             if size.has_hits() || size.has_misses() {
                 self.use_one_lock(&size)?;
@@ -80,7 +80,7 @@ impl<R: Host, W: Waiter, O: Write, E: Write> Bench<'_, R, W, O, E> {
 
     // The hits and misses of more than one thread.
     fn run_together(&mut self, plan: &Plan, threads: u16) -> Result<(), Failure> {
-        for entries in &plan.entries {
+        for entries in &plan.request.entries {
             let size = Size::new(plan, *entries, threads);
             if size.has_hits() || size.has_misses() {
                 self.use_one_lock(&size)?;

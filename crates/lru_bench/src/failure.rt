@@ -4,7 +4,7 @@
 
 use crate::request::MOST_ENTRIES;
 use concurrent_lru::lru_core::Refusal;
-use lru_stress::outcome::{RoundFailure, Trouble};
+use lru_support::stress::outcome::{RoundFailure, Trouble};
 use std::alloc::{AllocError, AllocFailed};
 use std::io;
 use std::io::Write;
@@ -40,7 +40,7 @@ impl Failure {
                  (plan | time) [WORD ..] [read_mostly FILE [CAPACITY]] | \
                  run (lock | clock) WORKLOAD ENTRIES CALLS | \
                  attack (chosen | drawn) (known | seeded | shards) KEYS | \
-                 soak SEED MINUTES"
+                 soak SEED MINUTES | refused [SCRIPT]"
             ),
             Failure::Word => writeln!(
                 err,

@@ -33,7 +33,7 @@ impl<R: Host, W: Waiter, O: Write, E: Write> Bench<'_, R, W, O, E> {
         let cache = self.on_one_lock(size.entries.get())?;
         let twice = size.entries.get().saturating_mul(2);
         cache.reserve(usize::try_from(twice).unwrap_or(usize::MAX))?;
-        self.fill_and_miss(&Make { cache: &cache }, System::Reserved, size)
+        self.fill_and_miss(&Make(&cache), System::Reserved, size)
     }
 
     /// Times hits and misses with this many shards: the hits on a cache in which all entries fit,
@@ -84,17 +84,17 @@ impl<R: Host, W: Waiter, O: Write, E: Write> Bench<'_, R, W, O, E> {
         match kind {
             Sharded::Locks => {
                 let full = self.in_shards(size.entries.get(), shards)?;
-                self.fill_and_miss(&Make { cache: &full }, System::Shards(shards), size)
+                self.fill_and_miss(&Make(&full), System::Shards(shards), size)
             }
             Sharded::Clock => {
                 let full = self.on_clock(size.entries.get(), shards)?;
-                self.fill_and_miss(&Make { cache: &full }, System::Clock(shards), size)
+                self.fill_and_miss(&Make(&full), System::Clock(shards), size)
             }
         }
     }
 
-    // Times the workloads of present keys. Each operation has a type parameter of its own, since the
-    // checker does not support threads that call a cache of a generic type.
+    // Times the workloads of present keys. Each operation has a type parameter of its own, since
+    // the checker does not support threads that call a cache of a generic type.
     fn hits<G: Operation + Sync, S: Operation + Sync, I: Operation + Sync>(
         &mut self,
         (get, read, init): (&G, &S, &I),

@@ -1,5 +1,6 @@
 //! A benchmark of the caches: times their workloads, or prints what they read. It also repeats the
-//! stress workload. `program` does everything except access the process.
+//! stress workload, and runs scripts of calls for runs in which memory is refused. `program` does
+//! everything except access the process.
 #![tactic(auto)]
 
 mod attack;
@@ -14,7 +15,7 @@ mod mostly;
 mod operation;
 mod plan;
 mod program;
-mod quotient;
+mod refused;
 mod report;
 mod request;
 mod single;

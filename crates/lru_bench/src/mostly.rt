@@ -41,10 +41,10 @@ impl<R: Host, W: Waiter, O: Write, E: Write> Bench<'_, R, W, O, E> {
     pub fn read_on_one_lock(&mut self, reads: Reads<'_>) -> Result<(), Failure> {
         let cache = self.on_one_lock(reads.mostly.capacity)?;
         let work = reads.work(System::OneLock);
-        self.read(&Make { cache: &cache }, reads.mostly, &work)?;
+        self.read(&Make(&cache), reads.mostly, &work)?;
         let cache = self.on_one_lock(reads.mostly.capacity)?;
         let work = reads.work(System::ReadOnOneLock);
-        self.read(&ReadOrMake { cache: &cache }, reads.mostly, &work)
+        self.read(&ReadOrMake(&cache), reads.mostly, &work)
     }
 
     /// Times both ways with this many shards.
@@ -53,10 +53,10 @@ impl<R: Host, W: Waiter, O: Write, E: Write> Bench<'_, R, W, O, E> {
     {
         let cache = self.in_shards(reads.mostly.capacity, shards)?;
         let work = reads.work(System::Shards(shards));
-        self.read(&Make { cache: &cache }, reads.mostly, &work)?;
+        self.read(&Make(&cache), reads.mostly, &work)?;
         let cache = self.in_shards(reads.mostly.capacity, shards)?;
         let work = reads.work(System::ReadInShards(shards));
-        self.read(&ReadOrMake { cache: &cache }, reads.mostly, &work)
+        self.read(&ReadOrMake(&cache), reads.mostly, &work)
     }
 
     /// Times `get_or_init` on a clock cache with this many shards.
@@ -65,7 +65,7 @@ impl<R: Host, W: Waiter, O: Write, E: Write> Bench<'_, R, W, O, E> {
     {
         let cache = self.on_clock(reads.mostly.capacity, shards)?;
         let work = reads.work(System::Clock(shards));
-        self.read(&Make { cache: &cache }, reads.mostly, &work)
+        self.read(&Make(&cache), reads.mostly, &work)
     }
 
     // Times the workload on an empty cache, which is filled first. Even a single worker has a

@@ -32,25 +32,17 @@ pub trait Operation {
 
 /// Returns the operations of the workloads of hits and misses, on a cache.
 pub fn operations<C: Cached<u64>>(cache: C) -> (Make<C>, Get<C>, Read<C>, Init<C>) {
-    (
-        Make { cache },
-        Get { cache },
-        Read { cache },
-        Init { cache },
-    )
+    (Make(cache), Get(cache), Read(cache), Init(cache))
 }
 
 /// `get`.
 #[derive(Drop)]
-pub struct Get<C> {
-    /// A reference to the cache.
-    pub cache: C,
-}
+pub struct Get<C>(pub C);
 
 impl<C: Cached<u64>> Operation for Get<C> {
     #[inline(always)]
     fn run(&self, key: u64) -> Result<Found, Refusal> {
-        match self.cache.get(key)? {
+        match self.0.get(key)? {
             Some(handle) => Ok(Found::of(Some(*C::value_of(&handle)))),
             None => Ok(Found::of(None)),
         }
@@ -59,60 +51,48 @@ impl<C: Cached<u64>> Operation for Get<C> {
 
 /// `read`.
 #[derive(Drop)]
-pub struct Read<C> {
-    /// A reference to the cache.
-    pub cache: C,
-}
+pub struct Read<C>(pub C);
 
 impl<C: Cached<u64>> Operation for Read<C> {
     #[inline(always)]
     fn run(&self, key: u64) -> Result<Found, Refusal> {
-        Ok(Found::of(self.cache.read(key, |value| *value)?))
+        Ok(Found::of(self.0.read(key, |value| *value)?))
     }
 }
 
 /// `get_or_init` of a present key. A value that had to be made is 0.
 #[derive(Drop)]
-pub struct Init<C> {
-    /// A reference to the cache.
-    pub cache: C,
-}
+pub struct Init<C>(pub C);
 
 impl<C: Cached<u64>> Operation for Init<C> {
     #[inline(always)]
     fn run(&self, key: u64) -> Result<Found, Refusal> {
-        let handle = self.cache.get_or_init(key, 1, |_| 0)?;
+        let handle = self.0.get_or_init(key, 1, |_| 0)?;
         Ok(Found::of(Some(*C::value_of(&handle))))
     }
 }
 
 /// `get_or_init`, whose `init` returns the key as the value.
 #[derive(Drop)]
-pub struct Make<C> {
-    /// A reference to the cache.
-    pub cache: C,
-}
+pub struct Make<C>(pub C);
 
 impl<C: Cached<u64>> Operation for Make<C> {
     #[inline(always)]
     fn run(&self, key: u64) -> Result<Found, Refusal> {
-        find_or_make(self.cache, key)
+        find_or_make(self.0, key)
     }
 }
 
 /// `read`, and then `get_or_init` if nothing was found.
 #[derive(Drop)]
-pub struct ReadOrMake<C> {
-    /// A reference to the cache.
-    pub cache: C,
-}
+pub struct ReadOrMake<C>(pub C);
 
 impl<C: Cached<u64>> Operation for ReadOrMake<C> {
     #[inline(always)]
     fn run(&self, key: u64) -> Result<Found, Refusal> {
-        match self.cache.read(key, |value| *value)? {
+        match self.0.read(key, |value| *value)? {
             Some(value) => Ok(Found::of(Some(value))),
-            None => find_or_make(self.cache, key),
+            None => find_or_make(self.0, key),
         }
     }
 }

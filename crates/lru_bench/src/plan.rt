@@ -20,12 +20,8 @@ pub enum Shown {
 /// The workloads to run, and their sizes.
 #[derive(Drop)]
 pub struct Plan {
-    /// The workloads, except for reads that mostly hit.
-    pub workloads: Vec<Workload>,
-    /// The number of entries of a cache, for each run.
-    pub entries: Vec<NonZeroU64>,
-    /// The number of threads that make hits and misses, for each run after that of one thread.
-    pub threads: Vec<u16>,
+    /// The workloads, except for reads that mostly hit, and on how many entries and threads.
+    pub request: Request,
     /// The number of operations of a thread.
     pub operations: u32,
     /// The number of calls of a worker of the stress workload.
@@ -40,9 +36,11 @@ impl Plan {
     /// Returns a plan of small workloads, of all kinds, whose sums are shown.
     pub fn check(alloc: Global) -> Result<Plan, Failure> {
         Ok(Plan {
-            workloads: ALL.iter().copied().collect(alloc)?,
-            entries: sizes(alloc, &[8, 100])?,
-            threads: MORE_THREADS.iter().copied().collect(alloc)?,
+            request: Request {
+                workloads: ALL.iter().copied().collect(alloc)?,
+                entries: sizes(alloc, &[8, 100])?,
+                threads: MORE_THREADS.iter().copied().collect(alloc)?,
+            },
             operations: 100,
             calls: 500,
             mostly: Some(Mostly::check(alloc)?),
@@ -53,9 +51,7 @@ impl Plan {
     /// Returns a plan of the requested workloads, which run long enough to be timed.
     pub fn time(request: Request, mostly: Option<Mostly>) -> Plan {
         Plan {
-            workloads: request.workloads,
-            entries: request.entries,
-            threads: request.threads,
+            request,
             operations: 1_000_000,
             calls: 500_000,
             mostly,
@@ -65,7 +61,10 @@ impl Plan {
 
     /// Returns whether this workload is run.
     pub fn wants(&self, workload: Workload) -> bool {
-        self.workloads.iter().any(|wanted| *wanted == workload)
+        self.request
+            .workloads
+            .iter()
+            .any(|wanted| *wanted == workload)
     }
 }
 
@@ -73,11 +72,11 @@ impl Plan {
 impl fmt::Display for Plan {
     fn fmt<W: fmt::Write>(&self, f: &mut fmt::Formatter<W>) -> fmt::Result {
         f.write_str("workloads")?;
-        write_each(f, &self.workloads)?;
+        write_each(f, &self.request.workloads)?;
         f.write_str("\nentries")?;
-        write_each(f, &self.entries)?;
+        write_each(f, &self.request.entries)?;
         f.write_str("\nthreads 1")?;
-        write_each(f, &self.threads)?;
+        write_each(f, &self.request.threads)?;
         match &self.mostly {
             Some(mostly) => write!(f, "\n{mostly}"),
             None => Ok(()),

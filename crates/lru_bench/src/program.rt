@@ -1,13 +1,13 @@
 //! The program, over streams that the caller provides.
 
 use crate::attack::Attack;
-use crate::bench;
 use crate::draws::Draws;
 use crate::failure::Failure;
 use crate::plan::{Mostly, Plan};
 use crate::request::{Request, number};
 use crate::single::Single;
 use crate::soak::Soak;
+use crate::{bench, refused};
 use std::alloc::Global;
 use std::fs::Files;
 use std::io::Write;
@@ -40,6 +40,9 @@ const READ_MOSTLY: &str = "read_mostly";
 /// - `soak`, a seed and a number of minutes run rounds of the stress workload from this seed, the
 ///   one after it, and so on, until the minutes are over, and write a line for each round and the
 ///   number of rounds to `out`. A round that was started is completed. Status 0.
+/// - `refused` and the name of a script, or `refused` alone for all scripts, make the calls of the
+///   script, and each call that is refused for lack of memory once more. The answers are written to
+///   `out`, and the refused calls to `err`. Status 0.
 /// - Any other words write the usage line to `err`. Status 2.
 ///
 /// Each failure writes a line to `err` and has status 1: `refused` and the number of the refusal if
@@ -102,6 +105,10 @@ where
         }
         [word, seed, minutes] if word.as_str() == "soak" => {
             Soak::of_words(seed.as_str(), minutes.as_str())?.run(rt, alloc, out)
+        }
+        [word] if word.as_str() == "refused" => refused::run(rt, alloc, None, out, err),
+        [word, script] if word.as_str() == "refused" => {
+            refused::run(rt, alloc, Some(script.as_str()), out, err)
         }
         _ => Err(Failure::Usage),
     }

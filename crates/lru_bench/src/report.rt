@@ -2,13 +2,12 @@
 
 use crate::failure::Failure;
 use crate::plan::Shown;
-use crate::quotient::Quotient;
 use crate::system::System;
 use crate::workload::Workload;
 use std::fmt;
 use std::io::Write;
 use std::rt::Clock;
-use std::time::{Duration, Instant};
+use std::time::Instant;
 
 /// A workload that was run.
 #[derive(Clone, Copy)]
@@ -75,7 +74,11 @@ impl<'a, R: Clock, O: Write, E: Write> Report<'a, R, O, E> {
         let taken = begin.elapsed(self.rt)?;
         match self.shown {
             Shown::Sum => writeln!(self.out, "{work} {sum}")?,
-            Shown::Time => writeln!(self.out, "{work} {}", per_operation(taken, work))?,
+            Shown::Time => {
+                let nanoseconds = u64::try_from(taken.as_nanos()).unwrap_or(u64::MAX);
+                let tenths = per_operation(nanoseconds, 10, work);
+                writeln!(self.out, "{work} {}.{}", tenths / 10, tenths % 10)?;
+            }
         }
         Ok(())
     }
@@ -86,20 +89,21 @@ impl<'a, R: Clock, O: Write, E: Write> Report<'a, R, O, E> {
         match self.shown {
             Shown::Sum => {}
             Shown::Time => {
-                writeln!(self.err, "# hits {work} {}", hit_ratio(hits, work))?;
+                let ratio = per_operation(hits, 10_000, work);
+                writeln!(
+                    self.err,
+                    "# hits {work} {}.{:04}",
+                    ratio / 10_000,
+                    ratio % 10_000
+                )?;
             }
         }
         Ok(())
     }
 }
 
-// Returns how many nanoseconds an operation took, to one decimal place.
-fn per_operation(taken: Duration, work: &Work) -> Quotient {
-    let nanoseconds = u64::try_from(taken.as_nanos()).unwrap_or(u64::MAX);
-    Quotient::of(nanoseconds, work.total(), 1)
-}
-
-// Returns the hit ratio, to four decimal places.
-fn hit_ratio(hits: u64, work: &Work) -> Quotient {
-    Quotient::of(hits, work.total(), 4)
+// Returns a number of units for each operation of the workload, rounded down, or 0 if it has none.
+fn per_operation(number: u64, units: u64, work: &Work) -> u64 {
+    let total = number.saturating_mul(units).checked_div(work.total());
+    total.unwrap_or(0)
 }

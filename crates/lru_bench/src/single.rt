@@ -85,14 +85,14 @@ impl Single {
     }
 
     fn call<C: Cached<u64>>(self, cache: C) -> Result<u64, Failure> {
-        let make = Make { cache };
+        let make = Make(cache);
         let present = WorkloadKeys::Present(self.entries);
         workers::fill(&make, self.entries)?;
         workers::work(&make, present, 1, self.uses_before())?;
         let told = match self.workload {
-            Workload::HitGet => workers::work(&Get { cache }, present, 0, self.calls)?,
-            Workload::HitRead => workers::work(&Read { cache }, present, 0, self.calls)?,
-            Workload::HitInit => workers::work(&Init { cache }, present, 0, self.calls)?,
+            Workload::HitGet => workers::work(&Get(cache), present, 0, self.calls)?,
+            Workload::HitRead => workers::work(&Read(cache), present, 0, self.calls)?,
+            Workload::HitInit => workers::work(&Init(cache), present, 0, self.calls)?,
             Workload::MissEvict => workers::work(&make, WorkloadKeys::Absent, 0, self.calls)?,
             Workload::Stress | Workload::ReadMostly => return Err(Failure::Usage),
         };

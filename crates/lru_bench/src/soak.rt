@@ -1,10 +1,10 @@
 //! A soak test: runs the stress workload from one seed after another until the time is over.
 
 use crate::failure::Failure;
-use lru_stress::outcome::{Counts, RoundFailure};
-use lru_stress::plan::Plan;
-use lru_stress::run;
-use lru_stress::seed::number;
+use lru_support::stress::outcome::{Counts, RoundFailure};
+use lru_support::stress::plan::Plan;
+use lru_support::stress::run;
+use lru_support::stress::seed::number;
 use std::alloc::Global;
 use std::io::Write;
 use std::rt::Clock;

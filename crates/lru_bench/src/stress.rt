@@ -6,10 +6,10 @@ use crate::host::{Host, Waiter};
 use crate::report::Work;
 use crate::system::{SHARDS, System};
 use crate::workload::Workload;
-use lru_stress::plan::Plan;
-use lru_stress::workers::{Answer, StressTarget, Unmade, share};
 use lru_support::cached::Cached;
 use lru_support::calls::WorkerCall;
+use lru_support::stress::plan::Plan;
+use lru_support::stress::workers::{Answer, StressTarget, Unmade, share};
 use std::io::Write;
 
 // The seed of the calls.

@@ -3,7 +3,7 @@
 //! Each failure has its line on standard error, and its exit status.
 
 use concurrent_lru::lru_core::Refusal;
-use lru_stress::outcome::RoundFailure;
+use lru_support::stress::outcome::RoundFailure;
 use std::alloc::AllocError;
 use std::io;
 use std::io::Write;

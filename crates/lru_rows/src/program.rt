@@ -1,10 +1,11 @@
 //! The program, over streams that the caller provides.
 
 use crate::failure::Failure;
-use crate::rows::{ROWS, Row};
-use lru_stress::outcome::RoundFailure;
-use lru_stress::plan::Plan;
-use lru_stress::{run as stress, seed};
+use crate::rows::ROWS;
+use crate::rows::line::Line;
+use lru_support::stress::outcome::RoundFailure;
+use lru_support::stress::plan::Plan;
+use lru_support::stress::{run as stress, seed};
 use std::alloc::Global;
 use std::io::Write;
 use std::sync::Wait;
@@ -56,20 +57,10 @@ fn write_rows<R: Threads + Wait + Sync, O: Write>(
     alloc: Global,
     out: &mut O,
 ) -> Result<(), Failure> {
-    for (index, row) in ROWS.iter().enumerate() {
-        write_row(rt, alloc, index + 1, *row, out)?;
+    for (number, row) in (1u32..).zip(ROWS) {
+        let mut line = Line::new(alloc);
+        row.run(rt, alloc, &mut line).map_err(Failure::Refused)?;
+        writeln!(out, "row {number}: {line}")?;
     }
-    Ok(())
-}
-
-fn write_row<R: Threads + Wait + Sync, O: Write>(
-    rt: &R,
-    alloc: Global,
-    number: usize,
-    row: Row,
-    out: &mut O,
-) -> Result<(), Failure> {
-    let text = row.text(rt, alloc).map_err(Failure::Refused)?;
-    writeln!(out, "row {number}: {text}")?;
     Ok(())
 }

@@ -3,7 +3,7 @@
 //! Most of them are scripts for a cache without a lock; the others have a function each.
 
 mod journal;
-mod line;
+pub mod line;
 mod locked;
 mod script;
 mod scripts;
@@ -68,18 +68,12 @@ pub enum Row {
 }
 
 impl Row {
-    /// Runs the row and returns its text, in parts separated by `; `; a journal's records follow
-    /// below, one on each line.
+    /// Runs the row and adds its parts to a line; a journal's records follow below, one on each
+    /// line.
     ///
     /// A refusal is shown if a script asks for it, and otherwise returned. `Memory` is never shown;
     /// it is also returned if a thread cannot be started.
-    pub fn text<R: Threads + Wait + Sync>(&self, rt: &R, alloc: Global) -> Result<String, Refusal> {
-        let mut line = Line::new(alloc);
-        self.write(rt, alloc, &mut line)?;
-        Ok(line.into_text())
-    }
-
-    fn write<R: Threads + Wait + Sync>(
+    pub fn run<R: Threads + Wait + Sync>(
         &self,
         rt: &R,
         alloc: Global,

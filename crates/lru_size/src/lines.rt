@@ -89,20 +89,15 @@ impl<'a> Line<'a> {
 
     // Returns the error that the line has `found` where something else was expected.
     fn error(&self, expected: Expected, found: Option<&str>) -> Failure {
-        let Some(found) = found else {
-            return Failure::Line {
-                line: self.number,
-                expected,
-                found: None,
-            };
+        let found = match found.map(|word| String::from_str(self.alloc, word)) {
+            Some(Ok(word)) => Some(word),
+            Some(Err(_)) => return Failure::OutOfMemory,
+            None => None,
         };
-        match String::from_str(self.alloc, found) {
-            Ok(found) => Failure::Line {
-                line: self.number,
-                expected,
-                found: Some(found),
-            },
-            Err(_) => Failure::OutOfMemory,
+        Failure::Line {
+            line: self.number,
+            expected,
+            found,
         }
     }
 }

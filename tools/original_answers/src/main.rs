@@ -1,8 +1,8 @@
 //! Reads steps, a line each, and prints each with what the original crate answers to it, in the
-//! form of `crates/lru_replay/stdout`. The steps and the answers are told in docs/REPLAY.md.
+//! form of `crates/examples/stdout`. The steps and the answers are told in docs/REPLAY.md.
 //!
 //! ```text
-//! cargo run < ../../crates/lru_replay/stdin | diff - ../../crates/lru_replay/stdout
+//! cargo run < ../../crates/examples/stdin | diff - ../../crates/examples/stdout
 //! ```
 
 use concurrent_lru::unsharded::{CacheHandle, LruCache};

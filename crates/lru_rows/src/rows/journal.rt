@@ -11,7 +11,11 @@ pub fn records_accepted_steps(alloc: Global, line: &mut Line) -> Result<(), Refu
     let mut journal = Journal::new(alloc, 1);
     make(alloc, &mut journal)?;
     evict(alloc, &mut journal, line)?;
-    release_again(alloc, &mut journal, line)?;
+    // The pin of the evicted entry is stale.
+    match journal.release(0) {
+        Ok(evicted) => show_stamps(alloc, evicted, line)?,
+        Err(refusal) => line.show_refusal(refusal)?,
+    }
     line.show(journal.records().len())?;
     for record in journal.records() {
         line.show_below(record)?;
@@ -22,7 +26,9 @@ pub fn records_accepted_steps(alloc: Global, line: &mut Line) -> Result<(), Refu
 // Makes a value and releases its pin.
 fn make(alloc: Global, journal: &mut Journal<u64, u64>) -> Result<(), Refusal> {
     journal.begin(&1, 1)?;
-    ready(alloc, journal)?;
+    if let Err((refusal, _)) = journal.ready(0, Arc::new(alloc, 1)?) {
+        return Err(refusal);
+    }
     journal.release(0)?;
     Ok(())
 }
@@ -35,29 +41,7 @@ fn evict(alloc: Global, journal: &mut Journal<u64, u64>, line: &mut Line) -> Res
     Ok(())
 }
 
-// Releases the pin of the evicted entry, which is stale.
-fn release_again(
-    alloc: Global,
-    journal: &mut Journal<u64, u64>,
-    line: &mut Line,
-) -> Result<(), Refusal> {
-    match journal.release(0) {
-        Ok(evicted) => show_stamps(alloc, evicted, line),
-        Err(refusal) => line.show_refusal(refusal),
-    }
-}
-
-fn ready(alloc: Global, journal: &mut Journal<u64, u64>) -> Result<(), Refusal> {
-    match journal.ready(0, Arc::new(alloc, 1)?) {
-        Ok(()) => Ok(()),
-        Err((refusal, _)) => Err(refusal),
-    }
-}
-
 fn show_stamps(alloc: Global, evicted: Evicted<u64, u64>, line: &mut Line) -> Result<(), Refusal> {
-    let mut stamps = Vec::new(alloc);
-    for gone in evicted {
-        stamps.push(gone.stamp)?;
-    }
+    let stamps: Vec<u64> = evicted.into_iter().map(|gone| gone.stamp).collect(alloc)?;
     line.show_numbers(&stamps)
 }

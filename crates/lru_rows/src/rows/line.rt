@@ -4,12 +4,18 @@
 
 use concurrent_lru::lru_core::{Begun, Failed, Refusal};
 use std::alloc::Global;
-use std::fmt::{Display, Write};
+use std::fmt::{self, Display, Write};
 
 /// The parts of a row so far.
 #[derive(Drop)]
 pub struct Line {
     text: String,
+}
+
+impl fmt::Display for Line {
+    fn fmt<W: fmt::Write>(&self, f: &mut fmt::Formatter<W>) -> fmt::Result {
+        f.write_str(self.text.as_str())
+    }
 }
 
 impl Line {
@@ -18,11 +24,6 @@ impl Line {
         Line {
             text: String::new(alloc),
         }
-    }
-
-    /// Returns the text of the line.
-    pub fn into_text(self) -> String {
-        self.text
     }
 
     /// Adds a part.
@@ -59,20 +60,22 @@ impl Line {
     }
 
     /// Adds the result of `begin` or `poll`.
-    pub fn show_begun<V>(&mut self, begun: &Begun<V>) -> Result<(), Refusal> {
+    pub fn show_begun(&mut self, begun: Result<Begun<u64>, Refusal>) -> Result<(), Refusal> {
         match begun {
-            Begun::Make(stamp) => self.show(format_args!("make {stamp}")),
-            Begun::Wait(stamp) => self.show(format_args!("wait {stamp}")),
-            Begun::Hit(stamp, _) => self.show(format_args!("hit {stamp}")),
+            Ok(Begun::Make(stamp)) => self.show(format_args!("make {stamp}")),
+            Ok(Begun::Wait(stamp)) => self.show(format_args!("wait {stamp}")),
+            Ok(Begun::Hit(stamp, _)) => self.show(format_args!("hit {stamp}")),
+            Err(refusal) => self.show_refusal(refusal),
         }
     }
 
     /// Adds the result of `fail`.
-    pub fn show_failed<K>(&mut self, failed: &Failed<K>) -> Result<(), Refusal> {
-        self.show(match failed {
-            Failed::Left => "left",
-            Failed::Removed(_) => "removed",
-        })
+    pub fn show_failed(&mut self, failed: Result<Failed<u64>, Refusal>) -> Result<(), Refusal> {
+        match failed {
+            Ok(Failed::Left) => self.show("left"),
+            Ok(Failed::Removed(_)) => self.show("removed"),
+            Err(refusal) => self.show_refusal(refusal),
+        }
     }
 
     /// Adds a refusal. Returns `Memory` instead of adding it.

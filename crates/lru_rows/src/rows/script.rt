@@ -8,9 +8,9 @@ use concurrent_lru::lru_core::{Begun, Evicted, Failed, Refusal, State};
 use std::alloc::Global;
 use std::sync::Arc;
 
-/// A new cache, and the acts on it.
+/// A new cache, and the acts on it, in lines.
 #[derive(Clone, Copy)]
-pub struct Script(pub Cache, pub &'static [Act]);
+pub struct Script(pub Cache, pub &'static [&'static [Act]]);
 
 /// A new, empty cache.
 #[derive(Clone, Copy)]
@@ -67,7 +67,9 @@ pub fn run(alloc: Global, scripts: &[Script], line: &mut Line) -> Result<(), Ref
             state: cache.new(alloc),
             evicted: Vec::new(alloc),
         };
-        stage.play(acts, line)?;
+        for act in acts.iter().flat_map(|line| line.iter()) {
+            stage.act(*act, line)?;
+        }
     }
     Ok(())
 }
@@ -91,40 +93,39 @@ struct Stage {
 }
 
 impl Stage {
-    fn play(&mut self, acts: &[Act], line: &mut Line) -> Result<(), Refusal> {
-        for act in acts {
-            self.act(*act, line)?;
-        }
-        Ok(())
-    }
-
     fn act(&mut self, act: Act, line: &mut Line) -> Result<(), Refusal> {
         match act {
-            Act::Make(key, charge) => self.make(key, charge),
-            Act::Hold(key, charge) => self.keep(key, charge),
+            Act::Make(key, charge) => {
+                let stamp = self.hold(key, charge)?;
+                self.release(stamp)
+            }
+            Act::Hold(key, charge) => self.hold(key, charge).map(|_stamp| ()),
             Act::Release(stamp) => self.release(stamp),
-            Act::SetCapacity(capacity) => self.set_capacity(capacity),
+            Act::SetCapacity(capacity) => {
+                let evicted = self.state.set_capacity(capacity);
+                push_keys(&mut self.evicted, evicted)
+            }
             Act::MakeInVain(key, charge) => self.make_in_vain(key, charge, line),
             Act::Find(key) => self.find(key, line),
             Act::Evicted => line.show_numbers(&self.evicted),
-            Act::Prune => self.prune(line),
+            Act::Prune => {
+                let evicted = self.state.prune();
+                self.show_keys(evicted, line)
+            }
             Act::Total => line.show(self.state.total()),
-            Act::Begin(key, charge) => self.show_begin(key, charge, line),
-            Act::Poll(stamp) => self.show_poll(stamp, line),
-            Act::Ready(stamp) => self.show_ready(stamp, line),
-            Act::Fail(stamp) => self.show_fail(stamp, line),
-            Act::GiveBack(stamp) => self.show_release(stamp, line),
+            Act::Begin(key, charge) => line.show_begun(self.begin(key, charge)),
+            Act::Poll(stamp) => line.show_begun(self.state.poll(stamp)),
+            Act::Ready(stamp) => match self.ready(stamp, stamp) {
+                Ok(_) => line.show("done"),
+                Err(Refusal::Stale) => line.show("back"),
+                Err(refusal) => Err(refusal),
+            },
+            Act::Fail(stamp) => line.show_failed(self.state.fail(stamp)),
+            Act::GiveBack(stamp) => match self.state.release(stamp) {
+                Ok(evicted) => self.show_keys(evicted, line),
+                Err(refusal) => line.show_refusal(refusal),
+            },
         }
-    }
-
-    fn make(&mut self, key: u64, charge: u64) -> Result<(), Refusal> {
-        let stamp = self.hold(key, charge)?;
-        self.release(stamp)
-    }
-
-    fn keep(&mut self, key: u64, charge: u64) -> Result<(), Refusal> {
-        let _stamp = self.hold(key, charge)?;
-        Ok(())
     }
 
     // Pins the entry of a key, making its value if there is none, and returns its stamp.
@@ -137,7 +138,7 @@ impl Stage {
 
     fn begin(&mut self, key: u64, charge: u64) -> Result<Begun<u64>, Refusal> {
         let (begun, evicted) = self.state.begin(&key, charge.max(1))?;
-        self.note(evicted)?;
+        push_keys(&mut self.evicted, evicted)?;
         Ok(begun)
     }
 
@@ -151,15 +152,6 @@ impl Stage {
 
     fn release(&mut self, stamp: u64) -> Result<(), Refusal> {
         let evicted = self.state.release(stamp)?;
-        self.note(evicted)
-    }
-
-    fn set_capacity(&mut self, capacity: u64) -> Result<(), Refusal> {
-        let evicted = self.state.set_capacity(capacity);
-        self.note(evicted)
-    }
-
-    fn note(&mut self, evicted: Evicted<u64, u64>) -> Result<(), Refusal> {
         push_keys(&mut self.evicted, evicted)
     }
 
@@ -174,52 +166,11 @@ impl Stage {
 
     fn find(&mut self, key: u64, line: &mut Line) -> Result<(), Refusal> {
         match self.state.get(&key) {
-            Ok(Some((stamp, _))) => self.release_found(stamp, line),
+            Ok(Some((stamp, _))) => {
+                line.show_found(true)?;
+                self.release(stamp)
+            }
             Ok(None) => line.show_found(false),
-            Err(refusal) => line.show_refusal(refusal),
-        }
-    }
-
-    fn release_found(&mut self, stamp: u64, line: &mut Line) -> Result<(), Refusal> {
-        line.show_found(true)?;
-        self.release(stamp)
-    }
-
-    fn prune(&mut self, line: &mut Line) -> Result<(), Refusal> {
-        let evicted = self.state.prune();
-        self.show_keys(evicted, line)
-    }
-
-    fn show_begin(&mut self, key: u64, charge: u64, line: &mut Line) -> Result<(), Refusal> {
-        match self.begin(key, charge) {
-            Ok(begun) => line.show_begun(&begun),
-            Err(refusal) => line.show_refusal(refusal),
-        }
-    }
-
-    fn show_poll(&mut self, stamp: u64, line: &mut Line) -> Result<(), Refusal> {
-        match self.state.poll(stamp) {
-            Ok(begun) => line.show_begun(&begun),
-            Err(refusal) => line.show_refusal(refusal),
-        }
-    }
-
-    fn show_ready(&mut self, stamp: u64, line: &mut Line) -> Result<(), Refusal> {
-        let value = Arc::new(self.alloc, stamp)?;
-        let is_back = self.state.ready(stamp, value).is_err();
-        line.show(if is_back { "back" } else { "done" })
-    }
-
-    fn show_fail(&mut self, stamp: u64, line: &mut Line) -> Result<(), Refusal> {
-        match self.state.fail(stamp) {
-            Ok(failed) => line.show_failed(&failed),
-            Err(refusal) => line.show_refusal(refusal),
-        }
-    }
-
-    fn show_release(&mut self, stamp: u64, line: &mut Line) -> Result<(), Refusal> {
-        match self.state.release(stamp) {
-            Ok(evicted) => self.show_keys(evicted, line),
             Err(refusal) => line.show_refusal(refusal),
         }
     }

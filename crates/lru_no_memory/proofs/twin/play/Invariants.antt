@@ -1,4 +1,0 @@
-use Rattle.lru_no_memory.proofs.twin.play.Given as goal
-
-abbrev pub ghosts-play_twin : goal.ghosts-play_twin
-ghosts-play_twin g a = record { name = a.opening }

@@ -1,3 +1,0 @@
--- The definitions that the contracts of the replay use.
-pub mod Slots
-pub mod Spelling
