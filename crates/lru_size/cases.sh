@@ -59,7 +59,9 @@ csv="capacity,uses,hits,charge_made
 11,7,2,16
 12,7,3,14
 "
-svg=$(cat "$crate/stdout")$'\n'
+# the image of all orders, each of whose lines names one, and of the exact order alone
+every_svg=$(cat "$crate/stdout")$'\n'
+svg=$(sed '/clock\|optimum/d' "$crate/stdout")$'\n'
 ends 0 "$table" "" "lru_size < uses"
 ends 0 "$table" "" "lru_size < spaced"
 ends 0 "7 uses of 4 keys
@@ -97,6 +99,59 @@ ends 1 "" "lru_size: $no_space" "lru_size < uses > /dev/full"
 ends 1 "" "lru_size: $no_space" "lru_size --svg - < uses > /dev/full"
 ends 1 "" "lru_size: $no_space" "lru_size --help > /dev/full"
 ends 1 "" "" "lru_size < empty 2> /dev/full"
+
+# Other orders. Whichever entry leaves first, the clock has no hit where no two keys fit that are
+# used one after the other, and all hits where all keys fit.
+other_header="$header       clock hits hit ratio     optimum hits hit ratio"
+ends 0 "7 uses of 4 keys
+the optimum ignores charges, which differ: other orders may hit more often
+$other_header
+                   1                    0     0.00%                   21                0     0.00%\
+                0     0.00%
+                   4                    0     0.00%                   21                0     0.00%\
+                2    28.57%
+                  14                    3    42.85%                   14                3    42.85%\
+                3    42.85%
+$knees" "" "lru_size --optimum --clock --capacities 1,4,14 < uses"
+ends 0 "capacity,uses,hits,charge_made,clock_hits,optimum_hits
+14,7,3,14,3,3
+0,7,0,21,0,0
+4,7,0,21,0,2
+14,7,3,14,3,3
+" "" "lru_size --clock --optimum --csv - --capacities 14,0,4,14 < uses"
+for capacities in 2,4 20,4,13,2; do
+    ends 0 "$every_svg" "" "lru_size --clock --optimum --capacities $capacities --svg - < uses"
+done
+ends 0 "the optimum ignores charges"$'\n' "" "lru_size --optimum --svg - < uses |
+    grep -o 'the optimum [^<]*'"
+ends 1 "" "" "printf 'a\nb\na\n' | lru_size --optimum --svg - | grep ignores"
+ends_at_failed_writes 1 "lru_size: $too_large" "lru_size --clock --optimum --csv - < uses"
+# optimum KEYS CHARGE HITS CAPACITIES: the hits in the exact order and in the optimum, at each
+# capacity
+optimum() {
+    ends 0 "$3"$'\n' "" "printf '%s $2\n' $1 | lru_size --optimum --csv - --capacities $4 |
+        sed 1d | cut -d, -f3,5 | paste -sd' '"
+}
+optimum "a b c d a b e a b c d e" 1 "0,2 0,4 2,5 4,6 7,7" 1,2,3,4,5
+optimum "a b c d a b e a b c d e" 3 "0,0 0,2 0,2 0,4 2,5 7,7" 2,3,5,6,9,15
+optimum "a b a b a b" 2 "0,2 4,4" 3,4
+optimum "a a b c a" 1 "1,2 1,2 2,2" 1,2,3
+ends 0 "5 uses of 3 keys"$'\n'"$header     optimum hits hit ratio"$'\n' "" \
+    "printf '%s 9\n' a b a b c | lru_size --optimum | head -n 2"
+# a key above the capacity displaces no other
+ends 0 "4,5,0,13,2"$'\n' "" "printf 'a\nb 5\na\nb 5\na\n' |
+    lru_size --optimum --csv - --capacities 4 | sed 1d"
+# with charges that differ, another order would keep both a and b here, and hit twice
+ends 0 "2,6,0,8,1"$'\n' "" "printf 'c 2\na\nb\nc 2\na\nb\n' |
+    lru_size --optimum --csv - --capacities 2 | sed 1d"
+# the exact order and the clock hit as docs/SPEED.md says of entries of charge 1
+for name in LevelDB RocksDB; do
+    wanted=$(grep "^| $name |" "$top/docs/SPEED.md" | tr -d '|,' | awk '{ print $2, $3, $4 }')
+    capacities=$(cut -d' ' -f1 <<< "$wanted" | paste -sd,)
+    ends 0 "$wanted"$'\n' "" "cut -d' ' -f1 $crate/data/${name,,} |
+        lru_size --clock --csv - --capacities $capacities |
+        awk -F, 'NR > 1 { printf \"%d %.3f %.3f\n\", \$1, \$3 / \$2, \$5 / \$2 }'"
+done
 
 # percentages are rounded down
 for lines in '1999 0.05%' '2 33.33%'; do
@@ -263,6 +318,11 @@ invalid "a value is required for '--svg <FILE>' but none was supplied" --svg
 invalid "the argument '--check <CAPACITY>' cannot be used with '--sample <N>'
 
 Usage: lru_size --check <CAPACITY> [TRACE]" "--check 1 --sample 2"
+for word in clock optimum; do
+    invalid "the argument '--$word' cannot be used with '--sample <N>'
+
+Usage: lru_size --$word [TRACE]" "--$word --sample 2"
+done
 ends 2 "" "lru_size: an argument is not valid UTF-8"$'\n' "lru_size \$'\xff' < uses"
 
 for word in --version -V; do
@@ -282,6 +342,10 @@ Options:
 ones
       --svg <FILE>                Write the curve to FILE as an SVG image; $table_instead
       --csv <FILE>                Write the curve to FILE as CSV; $table_instead
+      --clock                     Also print the hits of the clock cache, replayed at each \
+capacity of the table
+      --optimum                   Also print the hits of Belady's optimum, in which what is used \
+again latest, or never, leaves first; if charges differ, other orders may hit more often
       --check <CAPACITY>          Replay the trace in a cache of this capacity, and compare the \
 hits with the curve
       --sample <N>                Estimate the curve from about one key in N, at least 100 keys

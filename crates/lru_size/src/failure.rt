@@ -114,6 +114,14 @@ impl Failure {
         }
     }
 
+    /// The charges of the keys up to the use at this place of the trace, counted from 0, add up to
+    /// more than `u64::MAX`.
+    pub fn overflow_at(place: usize) -> Failure {
+        Failure::Overflow {
+            line: line_of(place),
+        }
+    }
+
     /// Writes a message to `err`, and returns the exit status of the program.
     ///
     /// The status is 2 if the arguments or the trace are to blame, and otherwise 1. It is also 1 if
@@ -207,9 +215,7 @@ impl From<Refusal> for Failure {
     fn from(refusal: Refusal) -> Failure {
         match refusal {
             Refusal::Memory => Failure::OutOfMemory,
-            Refusal::Overflow(place) => Failure::Overflow {
-                line: line_of(place),
-            },
+            Refusal::Overflow(place) => Failure::overflow_at(place),
             Refusal::TwoCharges(first, second) => Failure::TwoCharges {
                 first: line_of(first),
                 second: line_of(second),

@@ -4,14 +4,18 @@
 //! standard input. `program` does everything except access the process.
 #![tactic(auto)]
 
+mod clock;
 mod csv;
 mod failure;
 mod hit_curve;
 mod lines;
+mod optimum;
 mod options;
+mod order;
 mod plot;
 mod program;
 mod progress;
+mod results;
 mod sample;
 mod scale;
 mod table;

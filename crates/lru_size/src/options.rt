@@ -1,6 +1,7 @@
 //! The command line.
 
 use crate::failure::Failure;
+use crate::order::Order;
 use clap::error::ErrorKind;
 use clap::{Arg, ArgAction, ArgMatches, Command, Error, value_parser};
 use std::alloc::{AllocError, Global};
@@ -35,6 +36,8 @@ pub struct Options<'a> {
     pub check: Option<u64>,
     /// If `Some(n)`, the curve is estimated from about one key in `n`.
     pub sample: Option<u64>,
+    /// The orders whose hits are counted beside those of the exact order. Not with a sample.
+    pub orders: Vec<Order>,
 }
 
 impl<'a> Request<'a> {
@@ -81,6 +84,12 @@ impl<'a> Options<'a> {
                 }
             }
         }
+        let mut orders = Vec::new(alloc);
+        for order in [Order::Clock, Order::Optimum] {
+            if matches.get_flag(order.name()) {
+                orders.push(order)?;
+            }
+        }
         let (svg, csv) = (matches.get_str("svg"), matches.get_str("csv"));
         if svg.is_some() && svg == csv {
             return Err(Failure::OneFile);
@@ -93,6 +102,7 @@ impl<'a> Options<'a> {
             csv,
             check: matches.get_one::<u64>("check"),
             sample: matches.get_one::<u64>("sample"),
+            orders,
         })
     }
 }
@@ -118,6 +128,17 @@ fn command<'a>(alloc: Global) -> Result<Command<'a>, AllocError> {
             "csv",
             "Write the curve to FILE as CSV; if FILE is -, to standard output, instead of the \
                 table",
+        ))?
+        .arg(flag(
+            alloc,
+            "clock",
+            "Also print the hits of the clock cache, replayed at each capacity of the table",
+        ))?
+        .arg(flag(
+            alloc,
+            "optimum",
+            "Also print the hits of Belady's optimum, in which what is used again latest, or \
+                never, leaves first; if charges differ, other orders may hit more often",
         ))?
         .arg(check(alloc))?
         .arg(sample(alloc)?)
@@ -148,6 +169,13 @@ fn file<'a>(alloc: Global, name: &'a str, help: &'a str) -> Arg<'a> {
         .action(ArgAction::Set)
 }
 
+fn flag<'a>(alloc: Global, name: &'a str, help: &'a str) -> Arg<'a> {
+    Arg::new(alloc, name)
+        .long(name)
+        .help(help)
+        .action(ArgAction::SetTrue)
+}
+
 fn check<'a>(alloc: Global) -> Arg<'a> {
     Arg::new(alloc, "check")
         .long("check")
@@ -164,5 +192,7 @@ fn sample<'a>(alloc: Global) -> Result<Arg<'a>, AllocError> {
         .help("Estimate the curve from about one key in N, at least 100 keys")
         .action(ArgAction::Set)
         .value_parser(value_parser!(u64).range(1..))
-        .conflicts_with("check")
+        .conflicts_with("check")?
+        .conflicts_with("clock")?
+        .conflicts_with("optimum")
 }

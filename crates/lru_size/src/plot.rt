@@ -2,8 +2,11 @@
 //! Lengths are in tenths of a pixel, so that they are integers.
 
 use crate::hit_curve::HitCurve;
+use crate::order::Order;
+use crate::results::Results;
 use crate::scale::{Percentage, digits, fraction, round_step};
 use crate::table::KNEES;
+use std::alloc::{AllocError, Global};
 use std::io;
 use std::io::Write;
 
@@ -60,9 +63,16 @@ font-family='sans-serif' font-size='130'>
 <rect class='page' width='8000' height='4400'/>
 ";
 
+// The colors of the orders, if there are several.
+const COLORS: &str =
+    "<style>.exact { color: #0969da } .clock { color: #bc4c00 } .optimum { color: #1a7f37 } \
+    @media (prefers-color-scheme: dark) { .exact { color: #4493f8 } .clock { color: #f0883e } \
+    .optimum { color: #3fb950 } }</style>";
+
 /// A plot of a curve: the hit ratio over the capacity.
 #[derive(Drop)]
 pub struct Plot<'a> {
+    results: &'a Results,
     curve: &'a HitCurve,
     // The capacity at the right edge, at least 1.
     max_capacity: u64,
@@ -71,9 +81,12 @@ pub struct Plot<'a> {
 }
 
 impl<'a> Plot<'a> {
-    /// Creates a plot of `curve`, up to the least capacity with the greatest hit ratio.
-    pub fn new(curve: &'a HitCurve) -> Plot<'a> {
+    /// Creates a plot of the curve, up to the least capacity with the greatest hit ratio, and of
+    /// the hits in other orders up to there.
+    pub fn new(results: &'a Results) -> Plot<'a> {
+        let curve = &results.curve;
         Plot {
+            results,
             curve,
             max_capacity: curve.full_capacity().max(1),
             max_percent: max_percent(curve.most_hits(), curve.uses()),
@@ -84,12 +97,13 @@ impl<'a> Plot<'a> {
     ///
     /// # Errors
     ///
-    /// The error of `out`.
-    pub fn write_svg<O: Write>(&self, out: &mut O) -> io::Result<()> {
+    /// The error of `out`, or one of the kind `OutOfMemory` if memory runs out.
+    pub fn write_svg<O: Write>(&self, alloc: Global, out: &mut O) -> io::Result<()> {
         out.write_all(HEAD.as_bytes())?;
         self.write_titles(out)?;
         self.write_grid(out)?;
         self.write_axes(out)?;
+        self.write_orders(alloc, out)?;
         self.write_curve(out)?;
         self.write_knees(out)?;
         writeln!(out, "</svg>")
@@ -173,6 +187,52 @@ impl<'a> Plot<'a> {
         }
     }
 
+    // Writes the names of the orders, and the hits in those beside the exact one.
+    fn write_orders<O: Write>(&self, alloc: Global, out: &mut O) -> io::Result<()> {
+        if self.results.orders.is_empty() {
+            return Ok(());
+        }
+        write!(
+            out,
+            "{COLORS}\n<text x='{RIGHT}' y='350' text-anchor='end'>\
+                <tspan class='exact' fill='currentColor'>exact order</tspan>"
+        )?;
+        for order in &self.results.orders {
+            let name = order.name();
+            write!(
+                out,
+                "<tspan class='{name}' dx='120' fill='currentColor'>{name}</tspan>"
+            )?;
+        }
+        writeln!(out, "</text>")?;
+        if self.results.ignore_charges() {
+            writeln!(
+                out,
+                "<text class='text' x='{RIGHT}' y='4250' text-anchor='end'>\
+                    the optimum ignores charges</text>"
+            )?;
+        }
+        for order in &self.results.orders {
+            write_order(*order, &self.points(alloc, *order)?, out)?;
+        }
+        Ok(())
+    }
+
+    // Returns the points of an order from left to right: one for each of the table's capacities, as
+    // far as the plot goes.
+    fn points(&self, alloc: Global, order: Order) -> Result<Vec<(u64, u64)>, AllocError> {
+        let mut points = Vec::new(alloc);
+        for row in &self.results.rows {
+            if let Some(hits) = row.others.of(order)
+                && row.capacity <= self.max_capacity
+            {
+                points.push((self.x(row.capacity), self.y(hits)))?;
+            }
+        }
+        points.sort_unstable_by_key(|point| point.0);
+        Ok(points)
+    }
+
     // Writes the curve, with a step at each point where more uses hit than at the one before.
     fn write_curve<O: Write>(&self, out: &mut O) -> io::Result<()> {
         let mut previous = self.y(self.curve.hits(0));
@@ -233,6 +293,28 @@ impl<'a> Plot<'a> {
             "<text class='label' x='{x}' y='{y}' text-anchor='{anchor}'>{capacity}: {ratio}</text>"
         )
     }
+}
+
+// Writes a dot at each of the points of an order, and lines between them, which guide the eye. The
+// first line starts at the capacity 0, at which no use hits.
+fn write_order<O: Write>(order: Order, points: &[(u64, u64)], out: &mut O) -> io::Result<()> {
+    let name = order.name();
+    write!(
+        out,
+        "<path class='{name}' stroke='currentColor' stroke-width='14' fill='none' \
+            d='M{LEFT} {BOTTOM}"
+    )?;
+    for (x, y) in points {
+        write!(out, "L{x} {y}")?;
+    }
+    write!(
+        out,
+        "'/><path class='{name}' stroke='currentColor' stroke-width='70' stroke-linecap='round' d='"
+    )?;
+    for (x, y) in points {
+        write!(out, "M{x} {y}h0")?;
+    }
+    writeln!(out, "'/>")
 }
 
 // A mark on the x axis, with its capacity below it. The label is moved left if it would not fit on

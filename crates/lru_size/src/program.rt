@@ -4,8 +4,10 @@ use crate::csv::write_csv;
 use crate::failure::Failure;
 use crate::hit_curve::HitCurve;
 use crate::options::{Options, Request};
+use crate::order::Replays;
 use crate::plot::Plot;
 use crate::progress::Progress;
+use crate::results::{Results, rows};
 use crate::sample;
 use crate::table::write_table;
 use crate::trace::Trace;
@@ -18,6 +20,7 @@ use lru_support::lines::Lines;
 use std::alloc::Global;
 use std::fs::{self, File, Files};
 use std::io::{BufRead, BufReader, Write};
+use std::sync::Wait;
 
 /// The streams of a run.
 #[derive(Drop)]
@@ -43,9 +46,9 @@ pub struct Streams<'a, I, O, E> {
 /// `u64::MAX`, or if a replay contradicts the curve. On failure, a message that starts with the
 /// program's name goes to `err`, and nothing to `out` except what was written before a write
 /// failed.
-pub fn program<F: Files<File = File>, I: BufRead + Drop, O: Write, E: Write>(
+pub fn program<R: Files<File = File> + Wait, I: BufRead + Drop, O: Write, E: Write>(
     alloc: Global,
-    files: &F,
+    rt: &R,
     args: &[String],
     streams: Streams<'_, I, O, E>,
 ) -> u8 {
@@ -56,16 +59,16 @@ pub fn program<F: Files<File = File>, I: BufRead + Drop, O: Write, E: Write>(
         err_is_terminal,
     } = streams;
     let mut progress = Progress::new(err, err_is_terminal);
-    let ended = run(alloc, files, args, input, out, &mut progress);
+    let ended = run(alloc, rt, args, input, out, &mut progress);
     match ended {
         Ok(()) => 0,
         Err(failure) => failure.report(err),
     }
 }
 
-fn run<F: Files<File = File>, I: BufRead + Drop, O: Write, E: Write>(
+fn run<R: Files<File = File> + Wait, I: BufRead + Drop, O: Write, E: Write>(
     alloc: Global,
-    files: &F,
+    rt: &R,
     args: &[String],
     input: I,
     out: &mut O,
@@ -74,15 +77,15 @@ fn run<F: Files<File = File>, I: BufRead + Drop, O: Write, E: Write>(
     match Request::parse(alloc, args)? {
         Request::Text(text) => out.write_all(text.as_bytes())?,
         Request::Size(options) => {
-            let trace = read(alloc, files, &options, input, progress)?;
+            let trace = read(alloc, rt, &options, input, progress)?;
             let mut table = Vec::new(alloc);
-            let curve = size(alloc, &options, &trace, &mut table)?;
-            write_table(alloc, &curve, &options.capacities, &mut table)?;
+            let results = size(alloc, rt, &options, &trace, &mut table)?;
+            write_table(&results, &mut table)?;
             if !options.replace_table() {
                 out.write_all(&table)?;
                 out.flush()?;
             }
-            write_files(alloc, files, &options, &curve, out)?;
+            write_files(alloc, rt, &options, &results, out)?;
         }
     }
     out.flush()?;
@@ -108,9 +111,36 @@ fn read<F: Files<File = File>, I: BufRead + Drop, E: Write>(
     read.map_err(|failure| failure.of_trace(alloc, path))
 }
 
-// Writes the lines about the trace to `out`, and computes the curve. Fails with `NoUses` if the
-// trace is empty.
-fn size<O: Write>(
+// Writes the lines about the trace to `out`, and counts the hits. Fails with `NoUses` if the trace
+// is empty.
+fn size<W: Wait, O: Write>(
+    alloc: Global,
+    wait: &W,
+    options: &Options<'_>,
+    trace: &Trace,
+    out: &mut O,
+) -> Result<Results, Failure> {
+    let curve = curve(alloc, options, trace, out)?;
+    let replays = Replays::new(alloc, wait, trace, &options.orders)?;
+    let rows = rows(alloc, &curve, &replays, &options.capacities)?;
+    let results = Results {
+        curve,
+        orders: options.orders.clone()?,
+        rows,
+        has_one_charge: trace.has_one_charge(),
+    };
+    if results.ignore_charges() {
+        writeln!(
+            out,
+            "the optimum ignores charges, which differ: other orders may hit more often"
+        )?;
+    }
+    Ok(results)
+}
+
+// Writes the lines about the trace and the curve to `out`, and computes the curve. Fails with
+// `NoUses` if the trace is empty.
+fn curve<O: Write>(
     alloc: Global,
     options: &Options<'_>,
     trace: &Trace,
@@ -184,17 +214,17 @@ fn write_files<F: Files<File = File>, O: Write>(
     alloc: Global,
     files: &F,
     options: &Options<'_>,
-    curve: &HitCurve,
+    results: &Results,
     out: &mut O,
 ) -> Result<(), Failure> {
     if let Some(path) = options.svg {
         let mut svg = Vec::new(alloc);
-        Plot::new(curve).write_svg(&mut svg)?;
+        Plot::new(results).write_svg(alloc, &mut svg)?;
         write_file(alloc, files, path, &svg, out)?;
     }
     if let Some(path) = options.csv {
         let mut csv = Vec::new(alloc);
-        write_csv(alloc, curve, &mut csv)?;
+        write_csv(alloc, results, &mut csv)?;
         write_file(alloc, files, path, &csv, out)?;
     }
     Ok(())

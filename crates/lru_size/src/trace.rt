@@ -72,6 +72,14 @@ impl Trace {
         self.keys.len()
     }
 
+    /// Returns whether all uses have the same charge.
+    pub fn has_one_charge(&self) -> bool {
+        let Some((_, first)) = self.uses.first() else {
+            return true;
+        };
+        self.uses.iter().all(|(_, charge)| charge == first)
+    }
+
     // Adds the use on a line.
     fn add(&mut self, line: u64, used: Use<'_>) -> Result<(), Failure> {
         self.total_uses = line;
