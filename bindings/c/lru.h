@@ -17,7 +17,10 @@
  * If a key has no value, one caller is told LRU_MAKE: it makes the value and passes it to `ready`,
  * or gives up with `fail`. Callers that ask for the same key in the meantime are told LRU_WAIT.
  * They have a pin already, and ask again with `poll` after that `ready` or `fail`. The library does
- * not wake them: threads that wait need, for example, a condition variable.
+ * not wake them: threads that wait need, for example, a condition variable. If threads wait there
+ * for several keys, notify all of them, but only if somebody waits for this one: after a `fail`
+ * that is told LRU_LEFT, and after a `ready` of an entry that then has more than one pin, as
+ * lru_cache_entry tells under the same lock.
  *
  * The keys of a cache are of one of two kinds, which it is opened with: LRU_BYTES or LRU_WORDS. The
  * calls that take a key are there for each kind; all others are the same:
@@ -46,6 +49,13 @@
  *  5. malloc, realloc and free belong to one allocator, and malloc and realloc align a block to
  *     each power of two up to 16 that divides its size.
  *  6. No call is made from a signal handler, or in the forked child of a process with threads.
+ *
+ * If one of these rules is broken, a call may meet a state that the proofs exclude, and end the
+ * program. "Illegal instruction" (SIGILL) in a function of the library does not mean that the
+ * processor is the wrong one: look for a missing mutex (rule 1) or a copied handle (rule 2). The
+ * archive is not instrumented for sanitizers: ThreadSanitizer sees a race in it only by its calls
+ * of malloc and free, or not at all, and MemorySanitizer reports errors in right programs, since it
+ * does not see what the library writes.
  *
  * TWO RULES FOR PINS. Without them the calls still do what is proved, but not what is meant:
  *
@@ -103,8 +113,8 @@
  * holds it. An entry counts towards the total while its value is being made, and when it is
  * detached but still held.
  */
-#ifndef LRU_H
-#define LRU_H
+#ifndef CONCURRENT_LRU_H
+#define CONCURRENT_LRU_H
 
 #include <stdbool.h>
 #include <stddef.h>

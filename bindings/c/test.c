@@ -1,5 +1,7 @@
 /* Tests the library from C: the worked rows that need no threads, what free hands out, and the
  * codes for misuse. Prints each failure, and exits with 1 if there is any. */
+/* The guard of a header that a program may have under the same name. */
+#define LRU_H
 #include "lru.h"
 
 #include <inttypes.h>

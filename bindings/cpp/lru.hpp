@@ -13,8 +13,8 @@
 // header adds the locks and the values. It is ordinary C++, tested with the sanitizers.
 //
 // Requires C++17, the archive liblru.a, and threads (-pthread).
-#ifndef LRU_HPP
-#define LRU_HPP
+#ifndef CONCURRENT_LRU_HPP
+#define CONCURRENT_LRU_HPP
 
 #include <algorithm>
 #include <cassert>
@@ -28,6 +28,7 @@
 #include <new>
 #include <optional>
 #include <stdexcept>
+#include <string>
 #include <string_view>
 #include <type_traits>
 #include <utility>
@@ -92,10 +93,114 @@ struct Stats {
   }
 };
 
+// How a key is written for the library, which stores bytes or two words. The library compares what
+// keys are written as, so two keys must be written alike if and only if they are equal. Here it is
+// said for std::string_view, std::string, Words, integers, enumerations and pairs of the last two.
+// A type of your own takes a few lines, outside of any other namespace:
+//
+//   struct Block {
+//     std::uint64_t file;
+//     std::uint64_t offset;
+//   };
+//
+//   template <>
+//   struct lru::Key<Block> {
+//     static lru::Words written(const Block& block) { return {block.file, block.offset}; }
+//   };
+//
+// `written` returns Words, which are faster to look up, a std::string_view, or a std::string that
+// is put together in each call. Calls of a cache throw what it throws, and nothing changes.
+//
+// Where a cache shows keys, it shows what they are written as: Words or a std::string_view. If
+// there is a function `read` that makes the key of that, it shows what `read` returns.
+template <class T, class = void>
+struct Key {};
+
+template <>
+struct Key<std::string_view> {
+  static std::string_view written(std::string_view key) noexcept { return key; }
+};
+
+template <>
+struct Key<std::string> {
+  static std::string_view written(const std::string& key) noexcept { return key; }
+};
+
+template <>
+struct Key<Words> {
+  static Words written(Words key) noexcept { return key; }
+};
+
+namespace detail {
+
+// Whether a key has at most 64 bits. Different keys of one type have different words.
+template <class T>
+constexpr bool kIsWord = (std::is_integral_v<T> || std::is_enum_v<T>) && sizeof(T) <= 8;
+
+}  // namespace detail
+
+template <class T>
+struct Key<T, std::enable_if_t<detail::kIsWord<T>>> {
+  static Words written(T key) noexcept { return {0, static_cast<std::uint64_t>(key)}; }
+  static T read(Words words) noexcept { return static_cast<T>(words.second); }
+};
+
+template <class A, class B>
+struct Key<std::pair<A, B>, std::enable_if_t<detail::kIsWord<A> && detail::kIsWord<B>>> {
+  static Words written(const std::pair<A, B>& key) noexcept {
+    return {static_cast<std::uint64_t>(key.first), static_cast<std::uint64_t>(key.second)};
+  }
+  static std::pair<A, B> read(Words words) noexcept {
+    return {static_cast<A>(words.first), static_cast<B>(words.second)};
+  }
+};
+
+// The hash that chooses the shard of a key, unless a program passes its own: std::hash of what the
+// key is written as.
+template <class T>
+struct KeyHash {
+  std::size_t operator()(const T& key) const {
+    const auto& written = Key<T>::written(key);
+    return std::hash<std::decay_t<decltype(written)>>()(written);
+  }
+};
+
 template <class Value, class Key = std::string_view>
 class Cache;
 
 namespace detail {
+
+template <class T, class = void>
+struct WrittenAs {
+  static_assert(sizeof(T) == 0,
+                "lru: a key is a std::string_view, std::string, lru::Words, integer, enumeration, "
+                "pair of the last two, or of a type for which lru::Key is specialised");
+};
+
+// What the key type of a cache is written as: Words or bytes.
+template <class T>
+struct WrittenAs<T, std::void_t<decltype(lru::Key<T>::written(std::declval<const T&>()))>> {
+  using Written = std::decay_t<decltype(lru::Key<T>::written(std::declval<const T&>()))>;
+  using Form = std::conditional_t<std::is_same_v<Written, Words>, Words, std::string_view>;
+  static_assert(std::is_convertible_v<const Written&, Form>,
+                "lru: lru::Key<..>::written returns lru::Words or bytes as a string");
+};
+
+// How a key is passed.
+template <class T>
+using Argument = std::conditional_t<std::is_trivially_copyable_v<T> && sizeof(T) <= sizeof(Words),
+                                    T, const T&>;
+
+template <class T, class Form, class = void>
+struct Shown {
+  static Form of(Form written) { return written; }
+};
+
+// If there is a `read`, keys are shown as it makes them.
+template <class T, class Form>
+struct Shown<T, Form, std::void_t<decltype(lru::Key<T>::read(std::declval<Form>()))>> {
+  static auto of(Form written) { return lru::Key<T>::read(written); }
+};
 
 // A sum that stays at 2^64 - 1 if it would be more.
 inline std::uint64_t saturating_add(std::uint64_t a, std::uint64_t b) noexcept {
@@ -107,7 +212,7 @@ template <class Value>
 struct Node {
   // The value that `init` returns is made in place, so it need not be movable.
   template <class Init, class Key>
-  Node(Init&& init, Key key) : value(std::invoke(std::forward<Init>(init), key)) {}
+  Node(Init&& init, const Key& key) : value(std::invoke(std::forward<Init>(init), key)) {}
   template <class V>
   explicit Node(V&& v) : value(std::forward<V>(v)) {}
 
@@ -226,10 +331,10 @@ class Handle {
 
 // A cache behind one lock.
 //
-// Keys are byte strings (std::string_view; the cache copies the bytes for each entry that it makes)
-// or lru::Words. Each call hashes the bytes before it takes the lock, but copies them with the lock
-// held, so very long keys make other threads wait. All members may be called from any thread at any
-// time, except the constructor and the destructor.
+// Keys are of any type that lru::Key says how to write: as bytes, which the cache copies for each
+// entry that it makes, or as two words. Each call hashes the bytes before it takes the lock, but
+// copies them with the lock held, so very long keys make other threads wait. All members may be
+// called from any thread at any time, except the constructor and the destructor.
 //
 // No lock is held while `init` makes a value or a value is deleted. So both may take long, and may
 // call the cache. But `init` must not ask for the key whose value it makes, and must not wait for
@@ -237,6 +342,10 @@ class Handle {
 // that are evicted for the new one. Destructors of values must not throw.
 template <class Value, class Key>
 class Cache {
+  using Form = typename detail::WrittenAs<Key>::Form;
+  using Argument = detail::Argument<Key>;
+  using Shown = detail::Shown<Key, Form>;
+
  public:
   using Handle = lru::Handle<Value, Key>;
 
@@ -262,8 +371,9 @@ class Cache {
   // A handle of the key's value, or an empty one if there is no value or it is still being made.
   // Does not wait. Throws Overflow if the value has 2^32 - 1 handles, and OutOfMemory if the key is
   // longer than any before and there is no memory for a copy.
-  Handle get(Key key) {
-    const Hashed hashed = hash(key);
+  Handle get(Argument key) {
+    const auto& written = lru::Key<Key>::written(key);
+    const Hashed hashed = hash(written);
     std::unique_lock<std::mutex> lock(mutex_);
     const lru_told told = core_.get(hashed);
     lock.unlock();
@@ -277,7 +387,7 @@ class Cache {
   // The value is pinned while `reader` runs, and no lock is held. Does not wait. Throws what `get`
   // and `reader` throw.
   template <class Reader>
-  auto read(Key key, Reader&& reader) {
+  auto read(Argument key, Reader&& reader) {
     using Result = std::decay_t<std::invoke_result_t<Reader, Value&>>;
     const Handle found = get(key);
     if constexpr (std::is_void_v<Result>) {
@@ -304,10 +414,10 @@ class Cache {
   // Full, if the limit is strict, the key has no value and none is being made for it, and there is
   // no room for one. If there is no memory for the value, std::bad_alloc is thrown as if by `init`.
   template <class Init>
-  Handle get_or_init(Key key, std::uint64_t charge, Init&& init) {
-    const lru_told told = begin(key, charge);
+  Handle get_or_init(Argument key, std::uint64_t charge, Init&& init) {
+    Making making(this);
+    const lru_told told = begin(key, charge, &making);
     if (told.code == LRU_HIT) return handle(told);
-    Making making(this, detail::copy_of(told.pin));
     return making.end(std::make_unique<Node>(std::forward<Init>(init), key));
   }
 
@@ -319,9 +429,10 @@ class Cache {
   // room for the new value; an old value that has a handle takes room too. The key keeps its old
   // value then, and the new one is deleted.
   template <class V>
-  Handle insert(Key key, std::uint64_t charge, V&& value) {
+  Handle insert(Argument key, std::uint64_t charge, V&& value) {
     auto node = std::make_unique<Node>(std::forward<V>(value));
-    const Hashed hashed = hash(key);
+    const auto& written = lru::Key<Key>::written(key);
+    const Hashed hashed = hash(written);
     Evicted evicted;
     std::unique_lock<std::mutex> lock(mutex_);
     const lru_told told = core_.insert(hashed, charge, node.get(), &evicted);
@@ -333,8 +444,9 @@ class Cache {
   // Takes the key's value away: the next caller that asks for the key makes a new one. Handles of
   // the old value keep it, as with `insert`. Throws OutOfMemory if the key is longer than any
   // before and there is no memory for a copy.
-  void invalidate(Key key) {
-    const Hashed hashed = hash(key);
+  void invalidate(Argument key) {
+    const auto& written = lru::Key<Key>::written(key);
+    const Hashed hashed = hash(written);
     Evicted evicted;
     std::unique_lock<std::mutex> lock(mutex_);
     const lru_code code = core_.invalidate(hashed, &evicted);
@@ -344,8 +456,9 @@ class Cache {
 
   // Evicts the key's value if it is idle. If it is pinned, nothing happens, now or later. Throws
   // OutOfMemory if the key is longer than any before and there is no memory for a copy.
-  void advice_evict(Key key) {
-    const Hashed hashed = hash(key);
+  void advice_evict(Argument key) {
+    const auto& written = lru::Key<Key>::written(key);
+    const Hashed hashed = hash(written);
     Evicted evicted;
     std::unique_lock<std::mutex> lock(mutex_);
     const lru_code code = core_.advice_evict(hashed, &evicted);
@@ -360,10 +473,58 @@ class Cache {
     core_.prune(&evicted);
   }
 
+  // Takes the value of every key away, as `invalidate` does for one key, so that no key finds what
+  // was there or was being made. Idle values are evicted, and the others with their last handles;
+  // those who wait for a value that is being made still get that one. Throws std::bad_alloc before
+  // anything has changed; it needs no memory if no value has a handle or is being made.
+  void clear() {
+    Evicted evicted;
+    const std::lock_guard<std::mutex> lock(mutex_);
+    std::vector<lru_pin> pinned;
+    detail::KeyRoom<Form> room;
+    if (core_.pinned_charge() != 0) {
+      for (const lru_entry& entry : findable()) {
+        if (entry.pins != 0) pinned.push_back(entry.pin);
+      }
+      for (const Making* making = makings_; making != nullptr; making = making->next()) {
+        pinned.push_back(making->pin());
+      }
+      // Once there is room for each of these keys, nothing throws any more.
+      for (const lru_pin& pin : pinned) room.key_of(core_, pin);
+    }
+    for (const lru_pin& pin : pinned) detach(hash(room.key_of(core_, pin)), &evicted);
+    core_.prune(&evicted);
+  }
+
+  // Takes the values away, as `invalidate` does, for which `predicate(key, value, charge)` is true,
+  // and returns how many they are. It is called once for each value that its key finds, in no
+  // particular order; values that are being made stay.
+  //
+  // The lock is held meanwhile, so `predicate` must not call the cache, nor destroy a handle, and
+  // other calls wait. The key is valid during the call. Values are deleted after the lock is
+  // released. Throws std::bad_alloc, and what `predicate` throws; no value has left then.
+  template <class Predicate>
+  std::uint64_t erase_if(Predicate&& predicate) {
+    Evicted evicted;
+    const std::lock_guard<std::mutex> lock(mutex_);
+    std::vector<lru_entry> entries = findable();
+    detail::KeyRoom<Form> room;
+    const auto stays = [&](const lru_entry& entry) {
+      const Value& value = core_.node_of(entry.value)->value;
+      const auto& key = Shown::of(room.key_of(core_, entry.pin));
+      return !std::invoke(predicate, key, value, entry.charge);
+    };
+    entries.erase(std::remove_if(entries.begin(), entries.end(), stays), entries.end());
+    // The room is enough for each of these keys, so nothing throws any more.
+    for (const lru_entry& entry : entries) detach(hash(room.key_of(core_, entry.pin)), &evicted);
+    return entries.size();
+  }
+
   // Whether the key has a value, as `get` looks for it. Pins nothing, and does not count as a use.
   // Throws OutOfMemory if the key is longer than any before and there is no memory for a copy.
-  bool contains(Key key) const {
-    const Hashed hashed = hash(key);
+  bool contains(Argument key) const {
+    const auto& written = lru::Key<Key>::written(key);
+    const Hashed hashed = hash(written);
     std::unique_lock<std::mutex> lock(mutex_);
     const lru_code code = core_.contains(hashed);
     lock.unlock();
@@ -409,13 +570,12 @@ class Cache {
   template <class Visit>
   void for_each(Visit&& visit) const {
     const std::lock_guard<std::mutex> lock(mutex_);
-    std::vector<lru_entry> entries(static_cast<std::size_t>(core_.len()));
-    entries.resize(core_.entries(entries.data(), entries.size()));
-    detail::KeyRoom<Key> room;
+    const std::vector<lru_entry> entries = findable();
+    detail::KeyRoom<Form> room;
     for (const lru_entry& entry : entries) {
-      if (entry.is_detached != 0) continue;
       Value& value = core_.node_of(entry.value)->value;
-      std::invoke(visit, room.key_of(core_, entry.pin), value, entry.charge, entry.pins);
+      const auto& key = Shown::of(room.key_of(core_, entry.pin));
+      std::invoke(visit, key, value, entry.charge, entry.pins);
     }
   }
 
@@ -466,14 +626,16 @@ class Cache {
   // Always declared before the lock is taken: it is destroyed, and the values with it, after the
   // lock is released.
   using Evicted = detail::Evicted<Node>;
-  using Hashed = typename detail::Calls<Key>::Hashed;
+  using Hashed = typename detail::Calls<Form>::Hashed;
 
-  // The duty to make a value. If it is destroyed before `end`, making the value has failed.
+  // The duty to make a value, once it has begun. If it is destroyed before `end`, making the value
+  // has failed. From the one to the other it stands in the list of its cache, since no call of the
+  // core shows the entries that have no value yet. The members that change the list need the lock.
   class Making {
    public:
-    Making(Cache* cache, lru_pin pin) : cache_(cache), pin_(pin) {}
+    explicit Making(Cache* cache) noexcept : cache_(cache) {}
     ~Making() {
-      if (cache_ != nullptr) cache_->fail(pin_);
+      if (has_begun_) cache_->fail(this);
     }
 
     Making(const Making&) = delete;
@@ -481,17 +643,37 @@ class Cache {
 
     Handle end(std::unique_ptr<Node> node) noexcept {
       Value* const value = std::addressof(node->value);
-      cache_->ready(pin_, node.release());
-      return Handle(std::exchange(cache_, nullptr), pin_, value);
+      cache_->ready(this, node.release());
+      return Handle(cache_, pin_, value);
     }
 
+    void begin(const lru_pin& pin) noexcept {
+      has_begun_ = true;
+      pin_ = detail::copy_of(pin);
+      place_ = &cache_->makings_;
+      next_ = *place_;
+      if (next_ != nullptr) next_->place_ = &next_;
+      *place_ = this;
+    }
+    void leave_list() noexcept {
+      *place_ = next_;
+      if (next_ != nullptr) next_->place_ = place_;
+      has_begun_ = false;
+    }
+
+    const lru_pin& pin() const noexcept { return pin_; }
+    const Making* next() const noexcept { return next_; }
+
    private:
-    Cache* cache_;
-    lru_pin pin_;
+    Cache* const cache_;
+    lru_pin pin_ = {};
+    bool has_begun_ = false;    // of its own thread alone, which reads it without the lock
+    Making** place_ = nullptr;  // what leads to this one: the cache, or the one before
+    Making* next_ = nullptr;
   };
 
-  // Comes before the lock is taken.
-  Hashed hash(Key key) const noexcept { return detail::Calls<Key>::hashed(key, seed_); }
+  // Comes before the lock is taken, if it can.
+  Hashed hash(Form written) const noexcept { return detail::Calls<Form>::hashed(written, seed_); }
 
   Handle handle(const lru_told& told) {
     return Handle(this, detail::copy_of(told.pin),
@@ -500,35 +682,64 @@ class Cache {
 
   // Finds the key's value, or waits until another caller has made it: LRU_HIT. Or begins to make
   // it: LRU_MAKE.
-  lru_told begin(Key key, std::uint64_t charge) {
-    const Hashed hashed = hash(key);
+  lru_told begin(Argument key, std::uint64_t charge, Making* making) {
+    const auto& written = lru::Key<Key>::written(key);
+    const Hashed hashed = hash(written);
     Evicted evicted;
     std::unique_lock<std::mutex> lock(mutex_);
     lru_told told = core_.begin(hashed, charge, &evicted);
     while (told.code == LRU_WAIT) {
+      waiting_++;
       ended_.wait(lock);
+      waiting_--;
       told = core_.poll(told.pin);
     }
+    if (told.code == LRU_MAKE) making->begin(told.pin);
     lock.unlock();
     if (told.code != LRU_HIT && told.code != LRU_MAKE) detail::throw_refusal(told.code);
     return told;
   }
 
+  // All that wait, for whatever value, wait at one condition. So it is notified only if somebody
+  // waits for this value, and then has a pin of its entry: else a slow value whose key many ask for
+  // would make them wake for each value that is made meanwhile. Who waits took its pin with the
+  // lock held, and lets go of the lock only by waiting, so no notification is missed.
+
   // Gives the node to the core. It is never refused: its caller is the one that makes the value.
-  void ready(lru_pin pin, Node* node) noexcept {
+  void ready(Making* making, Node* node) noexcept {
     std::unique_lock<std::mutex> lock(mutex_);
-    [[maybe_unused]] const lru_code code = core_.ready(pin, node);
+    making->leave_list();
+    [[maybe_unused]] const lru_code code = core_.ready(making->pin(), node);
+    const bool is_awaited = waiting_ > 0 && core_.pins(making->pin()) > 1;
     lock.unlock();
     assert(code == LRU_DONE);
-    ended_.notify_all();
+    if (is_awaited) ended_.notify_all();
   }
 
-  void fail(lru_pin pin) noexcept {
+  void fail(Making* making) noexcept {
     std::unique_lock<std::mutex> lock(mutex_);
-    [[maybe_unused]] const lru_code code = core_.fail(pin);
+    making->leave_list();
+    const lru_code code = core_.fail(making->pin());
     lock.unlock();
     assert(code == LRU_LEFT || code == LRU_REMOVED);
-    ended_.notify_all();
+    if (code == LRU_LEFT) ended_.notify_all();
+  }
+
+  // The entries that have a value which their keys find. The caller holds the lock.
+  std::vector<lru_entry> findable() const {
+    std::vector<lru_entry> entries(static_cast<std::size_t>(core_.len()));
+    entries.resize(core_.entries(entries.data(), entries.size()));
+    entries.erase(std::remove_if(entries.begin(), entries.end(),
+                                 [](const lru_entry& entry) { return entry.is_detached != 0; }),
+                  entries.end());
+    return entries;
+  }
+
+  // Invalidates a key that has an entry, so its bytes are not longer than any before, and the call
+  // needs no memory. The caller holds the lock.
+  void detach(const Hashed& hashed, Evicted* evicted) noexcept {
+    [[maybe_unused]] const lru_code code = core_.invalidate(hashed, evicted);
+    assert(code == LRU_DONE);
   }
 
   // Another handle of the value that a handle of the caller pins.
@@ -555,8 +766,10 @@ class Cache {
   }
 
   mutable std::mutex mutex_;
-  std::condition_variable ended_;  // notified when a caller has made a value, or has failed
-  detail::Core<Node, Key> core_;
+  std::condition_variable ended_;  // notified when a value was made, or not, that others wait for
+  std::size_t waiting_ = 0;        // how many callers wait there
+  Making* makings_ = nullptr;      // the values that are being made
+  detail::Core<Node, Form> core_;
   const Seed seed_;
 };
 
@@ -574,11 +787,13 @@ inline std::size_t shards_for(std::uint64_t capacity, std::uint64_t charge) noex
 //
 //   lru::ShardedCache<Page> cache(capacity, lru::shards_for(capacity, 4096));
 //
-// The shard of a key does not depend on the seed. Whoever knows `Hash`, such as std::hash, can
+// The shard of a key does not depend on the seed. Whoever knows `Hash`, such as KeyHash, can
 // choose keys that all have the same shard, and so only its lock and its share of the capacity. If
 // keys come from outside the program, pass a `Hash` that mixes in a random number.
-template <class Value, class Key = std::string_view, class Hash = std::hash<Key>>
+template <class Value, class Key = std::string_view, class Hash = KeyHash<Key>>
 class ShardedCache {
+  using Argument = detail::Argument<Key>;
+
  public:
   using Handle = lru::Handle<Value, Key>;
 
@@ -619,26 +834,38 @@ class ShardedCache {
   ShardedCache& operator=(const ShardedCache&) = delete;
 
   // As for Cache.
-  Handle get(Key key) { return shard(key).get(key); }
+  Handle get(Argument key) { return shard(key).get(key); }
   template <class Reader>
-  auto read(Key key, Reader&& reader) {
+  auto read(Argument key, Reader&& reader) {
     return shard(key).read(key, std::forward<Reader>(reader));
   }
   template <class Init>
-  Handle get_or_init(Key key, std::uint64_t charge, Init&& init) {
+  Handle get_or_init(Argument key, std::uint64_t charge, Init&& init) {
     return shard(key).get_or_init(key, charge, std::forward<Init>(init));
   }
   template <class V>
-  Handle insert(Key key, std::uint64_t charge, V&& value) {
+  Handle insert(Argument key, std::uint64_t charge, V&& value) {
     return shard(key).insert(key, charge, std::forward<V>(value));
   }
-  bool contains(Key key) const { return shard(key).contains(key); }
-  void invalidate(Key key) { shard(key).invalidate(key); }
-  void advice_evict(Key key) { shard(key).advice_evict(key); }
+  bool contains(Argument key) const { return shard(key).contains(key); }
+  void invalidate(Argument key) { shard(key).invalidate(key); }
+  void advice_evict(Argument key) { shard(key).advice_evict(key); }
 
   // Evicts every idle value, one shard after another.
   void prune() {
     for (Shard& shard : shards_) shard.prune();
+  }
+
+  // As for Cache, one shard after another, each with its own lock held. What other threads insert
+  // meanwhile may stay. If one throws, the shards before it have been served.
+  void clear() {
+    for (Shard& shard : shards_) shard.clear();
+  }
+  template <class Predicate>
+  std::uint64_t erase_if(Predicate&& predicate) {
+    std::uint64_t erased = 0;
+    for (Shard& shard : shards_) erased += shard.erase_if(predicate);
+    return erased;
   }
 
   // As for Cache, one shard after another, each with its own lock held.

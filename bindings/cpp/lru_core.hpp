@@ -1,8 +1,8 @@
 // The library of lru.h as C++ classes without a lock. lru.hpp, leveldb_cache.h and rocksdb_cache.h
 // are built on them. Nothing here throws except Seed::random, and the header compiles with
 // -fno-exceptions and -fno-rtti.
-#ifndef LRU_CORE_HPP
-#define LRU_CORE_HPP
+#ifndef CONCURRENT_LRU_CORE_HPP
+#define CONCURRENT_LRU_CORE_HPP
 
 #include <cstddef>
 #include <cstdint>
@@ -214,6 +214,11 @@ class Core {
     return lru_cache_ready(&cache_, pin, word_of(node));
   }
   lru_code fail(lru_pin pin) noexcept { return lru_cache_fail(&cache_, pin); }
+  // The number of pins of an entry that has a value.
+  std::uint32_t pins(lru_pin pin) const noexcept {
+    lru_entry entry;
+    return lru_cache_entry(&cache_, pin, &entry) == LRU_DONE ? entry.pins : 0;
+  }
   lru_told get(Hashed key) noexcept { return Calls::get(&cache_, key); }
   lru_code contains(Hashed key) const noexcept { return Calls::contains(&cache_, key); }
   lru_told repin(lru_pin pin) noexcept { return lru_cache_repin(&cache_, pin); }

@@ -9,6 +9,7 @@
 #include <cstddef>
 #include <cstdint>
 #include <cstdio>
+#include <fstream>
 #include <functional>
 #include <memory>
 #include <mutex>
@@ -23,6 +24,9 @@
 #include <vector>
 
 #include "check.hpp"
+// The guards of headers that a program may have under the same names.
+#define LRU_H
+#define LRU_HPP
 #include "lru.hpp"
 
 namespace {
@@ -490,6 +494,140 @@ void one_that_waits_takes_a_failed_making_over() {
   CHECK(*cache.get(key(1)) == 7);
 }
 
+// Waits until this many callers wait. Who is counted keeps the lock until it waits, so these calls
+// see the count only then.
+template <class Cache>
+void wait_for_waits(const Cache& cache, std::uint64_t waits) {
+  while (cache.stats().waits < waits) {
+    std::this_thread::sleep_for(std::chrono::milliseconds(1));
+  }
+}
+
+void all_that_wait_are_woken_however_the_making_ends() {
+  constexpr int kWaiting = 8;
+  for (const bool is_invalidated : {false, true}) {
+    for (const bool fails : {false, true}) {
+      Numbers cache(10);
+      Meeting meeting, other_meeting;
+      std::atomic<int> right{0}, failed{0}, tried{0};
+      // The first that waits does so for another value, which is made last.
+      std::thread other([&] {
+        cache.get_or_init(key(3), 1, [&](lru::Words) {
+          other_meeting.meet();
+          other_meeting.meet();
+          return 3;
+        });
+      });
+      other_meeting.meet();
+      std::thread first([&] { CHECK(*cache.get_or_init(key(3), 1, returns(4)) == 3); });
+      wait_for_waits(cache, 1);
+      // Of those that take the making over, all but one fail too.
+      const auto tries = [&](lru::Words) {
+        if (fails && tried++ < kWaiting - 1) throw std::runtime_error("no value");
+        return 7;
+      };
+      const auto ask = [&](auto init) {
+        try {
+          if (*cache.get_or_init(key(1), 1, init) == 7) right++;
+        } catch (const std::runtime_error&) {
+          failed++;
+        }
+      };
+      std::vector<std::thread> threads;
+      threads.emplace_back([&] {
+        ask([&](lru::Words k) {
+          meeting.meet();
+          meeting.meet();
+          return tries(k);
+        });
+      });
+      meeting.meet();
+      for (int t = 0; t < kWaiting; t++) threads.emplace_back([&] { ask(tries); });
+      wait_for_waits(cache, 1 + kWaiting);
+      if (is_invalidated) cache.invalidate(key(1));
+      // Another value, for which nobody waits, is made meanwhile.
+      cache.get_or_init(key(2), 1, returns(2));
+      meeting.meet();
+      for (std::thread& thread : threads) thread.join();
+      other_meeting.meet();
+      other.join();
+      first.join();
+      CHECK(failed == (fails ? kWaiting - 1 : 0) && right == kWaiting + 1 - failed);
+      CHECK(cache.pinned_charge() == 0 && cache.contains(key(1)) != is_invalidated);
+    }
+  }
+}
+
+// The folder in which Linux tells about the calling thread.
+std::string folder_of_this_thread() {
+  char path[64];
+  const ssize_t length = readlink("/proc/thread-self", path, sizeof path);
+  CHECK(length > 0);
+  return "/proc/" + std::string(path, static_cast<std::size_t>(length > 0 ? length : 0));
+}
+
+// How often a thread has gone to sleep, once it sleeps.
+long sleeps_of(const std::string& folder) {
+  while (true) {
+    std::ifstream status(folder + "/status");
+    bool is_asleep = false;
+    for (std::string line; std::getline(status, line);) {
+      if (line.rfind("State:", 0) == 0) is_asleep = line.find('S', 6) != std::string::npos;
+      const std::string_view count = "voluntary_ctxt_switches:";
+      if (is_asleep && line.rfind(count, 0) == 0) return std::stol(line.substr(count.size()));
+    }
+    std::this_thread::sleep_for(std::chrono::milliseconds(1));
+  }
+}
+
+void a_making_wakes_only_those_that_wait_for_it() {
+  constexpr std::size_t kWaiting = 20;
+  Numbers cache(10);
+  Meeting meeting;
+  std::mutex lock;
+  std::vector<std::string> folders;
+  std::vector<std::thread> threads;
+  threads.emplace_back([&] {
+    cache.get_or_init(key(0), 1, [&](lru::Words) {
+      meeting.meet();
+      meeting.meet();
+      return 7;
+    });
+  });
+  meeting.meet();
+  std::atomic<std::size_t> right{0};
+  for (std::size_t t = 0; t < kWaiting; t++) {
+    threads.emplace_back([&] {
+      {
+        const std::lock_guard<std::mutex> guard(lock);
+        folders.push_back(folder_of_this_thread());
+      }
+      if (*cache.get_or_init(key(0), 1, returns(8)) == 7) right++;
+    });
+  }
+  wait_for_waits(cache, kWaiting);
+  const auto sleeps = [&] {
+    long sum = 0;
+    for (const std::string& folder : folders) sum += sleeps_of(folder);
+    return sum;
+  };
+  const long before = sleeps();
+  for (std::uint64_t n = 1; n <= 200; n++) {
+    cache.get_or_init(key(n), 1, returns(1));
+    try {
+      cache.get_or_init(key(1000 + n), 1, [](lru::Words) -> int {
+        throw std::runtime_error("no value");
+      });
+    } catch (const std::runtime_error&) {
+    }
+  }
+  // Nobody has woken: who wakes goes to sleep once more.
+  CHECK(sleeps() == before);
+  meeting.meet();
+  for (std::thread& thread : threads) thread.join();
+  CHECK(right == kWaiting);
+}
+
 void other_keys_are_served_while_a_value_is_made() {
   Numbers cache(2);
   Meeting meeting;
@@ -698,6 +836,185 @@ void a_visit_may_throw() {
   CHECK(visits == 2 && cache.len() == 3);
 }
 
+// A value that records its number in `deleted` when it is deleted, and cannot be moved.
+struct Recorded {
+  Recorded(std::vector<int>* d, int n) : deleted(d), number(n) {}
+  ~Recorded() { deleted->push_back(number); }
+
+  Recorded(const Recorded&) = delete;
+  Recorded& operator=(const Recorded&) = delete;
+
+  std::vector<int>* deleted;
+  int number;
+};
+
+template <class Key, class KeyOf>
+void clears(KeyOf key_of) {
+  using Cache = lru::Cache<std::unique_ptr<Recorded>, Key>;
+  std::vector<int> deleted;
+  Cache cache(10);
+  const auto insert = [&](int number) {
+    return cache.insert(key_of(number), 1, std::make_unique<Recorded>(&deleted, number));
+  };
+  cache.clear();
+  for (int number = 1; number <= 3; number++) insert(number);
+  cache.clear();
+  // The one that was released first leaves first.
+  CHECK((deleted == std::vector<int>{1, 2, 3}) && cache.len() == 0);
+
+  // A value with a handle leaves with it. So does one that was invalidated before, whose key has
+  // another value by now.
+  deleted.clear();
+  auto held = insert(4);
+  auto replaced = insert(5);
+  insert(5 + 100);
+  insert(6);
+  cache.insert(key_of(5), 1, std::make_unique<Recorded>(&deleted, 50));
+  cache.clear();
+  CHECK((deleted == std::vector<int>{105, 6, 50}) && cache.len() == 2);
+  for (const int number : {4, 5, 6, 105}) CHECK(!cache.contains(key_of(number)));
+  CHECK((*held)->number == 4 && (*replaced)->number == 5);
+  CHECK((*insert(4))->number == 4 && cache.len() == 3);
+  held.reset();
+  replaced.reset();
+  CHECK((deleted == std::vector<int>{105, 6, 50, 4, 5}) && cache.contains(key_of(4)));
+
+  // No key finds a value whose making had begun.
+  deleted.clear();
+  Meeting meeting;
+  std::thread making([&] {
+    const auto made = cache.get_or_init(key_of(7), 1, [&](Key) {
+      // This one begins later and ends earlier.
+      const auto other = cache.get_or_init(key_of(8), 1, [&](Key) {
+        meeting.meet();
+        meeting.meet();
+        return std::make_unique<Recorded>(&deleted, 8);
+      });
+      CHECK((*other)->number == 8 && !cache.contains(key_of(8)));
+      return std::make_unique<Recorded>(&deleted, 7);
+    });
+    CHECK((*made)->number == 7);
+  });
+  meeting.meet();
+  std::thread waiting([&] {
+    // It has asked before the clear.
+    const auto got = cache.get_or_init(key_of(7), 1, [](Key) { return nullptr; });
+    CHECK((*got)->number == 7);
+  });
+  wait_for_waits(cache, 1);
+  cache.clear();
+  CHECK((deleted == std::vector<int>{4}) && cache.len() == 2);
+  const auto fresh = cache.get_or_init(
+      key_of(7), 1, [&](Key) { return std::make_unique<Recorded>(&deleted, 70); });
+  CHECK((*fresh)->number == 70);
+  meeting.meet();
+  making.join();
+  waiting.join();
+  CHECK((deleted == std::vector<int>{4, 8, 7}) && (**cache.get(key_of(7))).number == 70);
+}
+
+void a_clear_leaves_nothing_to_be_found() {
+  clears<lru::Words>([](int number) { return key(static_cast<std::uint64_t>(number)); });
+  // Keys of different lengths, none of which is copied to a place that is too small.
+  std::vector<std::string> names;
+  for (int number = 0; number < 200; number++) {
+    names.push_back(std::string(static_cast<std::size_t>(number), 'k'));
+  }
+  clears<std::string_view>(
+      [&](int number) { return std::string_view(names[static_cast<std::size_t>(number)]); });
+}
+
+void what_a_predicate_chooses_is_erased() {
+  std::vector<int> deleted;
+  lru::Cache<std::unique_ptr<Recorded>> cache(100);
+  const auto insert = [&](std::string_view key, std::uint64_t charge, int number) {
+    return cache.insert(key, charge, std::make_unique<Recorded>(&deleted, number));
+  };
+  const auto all = [](auto&&...) { return true; };
+  CHECK(cache.erase_if(all) == 0);
+  insert("a", 1, 1);
+  insert("bb", 2, 2);
+  auto held = insert("", 3, 3);
+  auto invalidated = insert("gone", 4, 4);
+  cache.invalidate("gone");
+  insert(std::string(100, 'x'), 5, 5);
+  const lru::Stats before = cache.stats();
+
+  // It sees each key, value and charge once. Nothing leaves unless it says so.
+  std::set<std::string> seen;
+  const auto none = [&](std::string_view key, const auto& value, std::uint64_t charge) {
+    CHECK(deleted.empty());
+    seen.insert(std::string(key) + "=" + std::to_string(value->number) + ":" +
+                std::to_string(charge));
+    return false;
+  };
+  CHECK(cache.erase_if(none) == 0 && deleted.empty() && cache.len() == 5);
+  CHECK((seen == std::set<std::string>{"a=1:1", "bb=2:2", "=3:3", std::string(100, 'x') + "=5:5"}));
+
+  // By key, by value and by charge.
+  CHECK(cache.erase_if([](std::string_view key, auto&&...) { return key == "bb"; }) == 1);
+  CHECK((deleted == std::vector<int>{2}) && !cache.contains("bb") && cache.contains("a"));
+  const auto is_fifth = [](std::string_view, const auto& value, auto) {
+    return value->number == 5;
+  };
+  CHECK(cache.erase_if(is_fifth) == 1 && (deleted == std::vector<int>{2, 5}));
+  // A value with a handle leaves with it.
+  CHECK(cache.erase_if([](auto, auto&&, std::uint64_t charge) { return charge == 3; }) == 1);
+  CHECK(!cache.contains("") && (*held)->number == 3 && deleted.size() == 2);
+  held.reset();
+  CHECK((deleted == std::vector<int>{2, 5, 3}));
+  const lru::Stats after = cache.stats();
+  CHECK(after.evictions == before.evictions + 3 && after.hits == before.hits);
+
+  // A value that is being made is not shown, and stays.
+  cache.get_or_init("made", 1, [&](std::string_view) {
+    CHECK(cache.erase_if(all) == 1);
+    return std::make_unique<Recorded>(&deleted, 6);
+  });
+  CHECK(cache.contains("made") && deleted.back() == 1 && cache.len() == 2);
+
+  // Values are deleted after the lock was released: their destructors may call the cache.
+  std::vector<int> numbers;
+  Calling::Cache calling(10);
+  for (int n = 1; n <= 3; n++) {
+    calling.insert(key(static_cast<std::uint64_t>(n)), 1, Calling(&calling, &numbers, n));
+  }
+  CHECK(calling.erase_if([](lru::Words k, auto&&...) { return k.second < 3; }) == 2);
+  CHECK(numbers.size() == 3 && calling.len() == 0);
+  calling.insert(key(4), 1, Calling(&calling, &numbers, 4));
+  calling.clear();
+  CHECK(numbers.size() == 4);
+}
+
+void a_predicate_that_throws_erases_nothing() {
+  Numbers cache(10);
+  for (const std::uint64_t n : {1u, 2u, 3u}) cache.insert(key(n), 1, 0);
+  int calls = 0;
+  bool thrown = false;
+  try {
+    cache.erase_if([&](auto&&...) {
+      if (++calls == 3) throw std::runtime_error("enough");
+      return true;
+    });
+  } catch (const std::runtime_error&) {
+    thrown = true;
+  }
+  // The lock was released, and the cache goes on.
+  CHECK(thrown && cache.len() == 3 && cache.contains(key(1)));
+  CHECK(*cache.get_or_init(key(4), 1, returns(4)) == 4);
+  CHECK(cache.erase_if([](auto&&...) { return true; }) == 4 && cache.len() == 0);
+}
+
+void every_shard_is_cleared() {
+  lru::ShardedCache<int> cache(1000, std::size_t{4});
+  for (int n = 0; n < 100; n++) cache.insert(std::to_string(n), 1, n);
+  CHECK(cache.erase_if([](auto, int value, auto) { return value % 2 == 0; }) == 50);
+  CHECK(cache.len() == 50 && !cache.contains("42") && cache.contains("43"));
+  auto held = cache.get("43");
+  cache.clear();
+  CHECK(cache.len() == 1 && !cache.contains("43") && *held == 43);
+}
+
 void shards_have_equal_shares() {
   using Sharded = lru::ShardedCache<const int, lru::Words, BySecond>;
   CHECK(Sharded(10, 3).capacity() == 12);
@@ -843,6 +1160,8 @@ int main() {
   a_making_that_is_invalidated_is_not_waited_for();
   others_wait_for_one_making();
   one_that_waits_takes_a_failed_making_over();
+  all_that_wait_are_woken_however_the_making_ends();
+  a_making_wakes_only_those_that_wait_for_it();
   other_keys_are_served_while_a_value_is_made();
   a_destructor_may_call_the_cache();
   a_cache_deletes_what_is_left_oldest_release_first();
@@ -852,12 +1171,16 @@ int main() {
   values_that_keys_find_are_shown();
   values_of_all_shards_are_shown();
   a_visit_may_throw();
+  a_clear_leaves_nothing_to_be_found();
+  what_a_predicate_chooses_is_erased();
+  a_predicate_that_throws_erases_nothing();
+  every_shard_is_cleared();
   shards_have_equal_shares();
   a_small_cache_has_few_shards();
   a_seed_changes_no_answer();
   high_bits_of_a_key_choose_its_shard_too();
   a_handle_that_outlives_its_cache_is_asserted_against();
   values_may_be_move_only_or_neither();
-  std::printf("lru.hpp: 34 tests, %d checks failed\n", failed_checks);
+  std::printf("lru.hpp: 40 tests, %d checks failed\n", failed_checks);
   return failed_checks == 0 ? 0 : 1;
 }

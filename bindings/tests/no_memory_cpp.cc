@@ -100,6 +100,17 @@ class Script {
     say("total", cache_->total_charge());
     cache_->set_capacity(8);
     say("total", cache_->total_charge());
+    // A call that is refused erases nothing; of a sharded cache, nothing of the shard that refused.
+    const auto found = insert(70, 2);
+    const auto is_even = [](const auto&, const Object& object, std::uint64_t) {
+      return object.number() % 2 == 0;
+    };
+    repeated("erase_if", [&] { cache_->erase_if(is_even); });
+    say("total", cache_->total_charge());
+    const auto kept = insert(71, 2);
+    repeated("clear", [&] { cache_->clear(); });
+    if (cache_->contains(Keys::key(71))) wrong("a cleared object is found");
+    say("total", cache_->total_charge());
   }
 
  private:

@@ -12,7 +12,7 @@
 static uint64_t seed;   /* random, so that nobody can choose paths whose hashes are equal */
 static lru_cache cache; /* used only while the lock is held */
 static pthread_mutex_t lock = PTHREAD_MUTEX_INITIALIZER;
-static pthread_cond_t ended = PTHREAD_COND_INITIALIZER; /* after each ready and fail */
+static pthread_cond_t ended = PTHREAD_COND_INITIALIZER; /* a ready or fail that others wait for */
 
 static void close_evicted(lru_chain *gone) {
     lru_gone entry;
@@ -36,13 +36,17 @@ static FILE *find_or_open(const char *path, lru_chain *gone, lru_pin *pin) {
     if (told.code != LRU_MAKE) /* LRU_HIT, or an error, which has the value 0 */
         return (FILE *)(uintptr_t)told.value;
     FILE *file = fopen(path, "rb");
+    lru_entry made;
+    bool others_wait; /* those who do have pins of this entry too */
     pthread_mutex_lock(&lock);
-    if (file != NULL)
-        lru_cache_ready(&cache, *pin, (uintptr_t)file); /* no other caller makes this value */
+    if (file != NULL) /* no other caller makes this value, so ready is not refused */
+        others_wait = lru_cache_ready(&cache, *pin, (uintptr_t)file) == LRU_DONE &&
+                      lru_cache_entry(&cache, *pin, &made) == LRU_DONE && made.pins > 1;
     else
-        lru_cache_fail(&cache, *pin); /* gives the pin back */
+        others_wait = lru_cache_fail(&cache, *pin) == LRU_LEFT; /* gives the pin back */
     pthread_mutex_unlock(&lock);
-    pthread_cond_broadcast(&ended);
+    if (others_wait)
+        pthread_cond_broadcast(&ended);
     return file;
 }
 

@@ -99,6 +99,7 @@ pub const OVERFLOW: u32 = 7;
 pub const MEMORY: u32 = 9;
 pub const NUMBER: u32 = 10;
 pub const NO_CHARGE: u32 = 11;
+pub const NO_ROOM: u32 = 17;
 pub const PINNED: u32 = 18;
 pub const FULL: u32 = 20;
 
@@ -120,6 +121,7 @@ unsafe extern "C" {
         value: u64,
     ) -> u32;
     pub fn lru_cache_fail(cache: *mut Handle, pin: Pin) -> u32;
+    pub fn lru_cache_entry(cache: *mut Handle, pin: Pin, out: *mut Entry) -> u32;
     pub fn lru_cache_repin(cache: *mut Handle, pin: Pin) -> Told;
     pub fn lru_cache_release_at(
         cache: *mut Handle,

@@ -2,7 +2,8 @@
 
 use std::borrow::Cow;
 
-use crate::ffi::{self, Handle, Told};
+use crate::error::Refusal;
+use crate::ffi::{self, Handle, Pin, Told};
 use crate::hash::hash_of;
 
 /// The form that a key is written in: [`Bytes`], [`CowBytes`] or [`Words`].
@@ -20,7 +21,7 @@ pub type Written<'a, F> = <F as sealed::Calls>::Written<'a>;
 pub(crate) type Hashed<'a, F> = <F as sealed::Calls>::Hashed<'a>;
 
 pub(crate) mod sealed {
-    use super::{Handle, Told};
+    use super::{Handle, Pin, Refusal, Told};
 
     /// The functions of `lru.h` that take a key, for one form of keys.
     ///
@@ -35,6 +36,9 @@ pub(crate) mod sealed {
         /// A key of this form as the functions take it: bytes with their hash.
         type Hashed<'a>: Copy;
 
+        /// Where the key of an entry is copied to.
+        type Room: Default;
+
         /// The kind of keys with which a cache is opened.
         const KIND: u32;
 
@@ -43,6 +47,19 @@ pub(crate) mod sealed {
 
         /// Hashes a key, before the lock is taken. The seed is the same for all calls on a cache.
         fn hashed<'a>(key: &'a Self::Written<'_>, seed: u64) -> Self::Hashed<'a>;
+
+        /// Copies the key of an entry, which may have no value yet. Returns [`Refusal::Memory`] if
+        /// the room cannot be made large enough; it never has to be for a key that was copied to
+        /// it before.
+        ///
+        /// # Safety
+        ///
+        /// As for [`Calls`], and the cache has the entry.
+        unsafe fn key_of(
+            cache: *mut Handle,
+            pin: Pin,
+            room: &mut Self::Room,
+        ) -> Result<Self::Written<'_>, Refusal>;
 
         /// # Safety
         ///
@@ -96,6 +113,8 @@ pub(crate) mod sealed {
 pub enum Bytes {}
 
 unsafe extern "C" {
+    fn lru_bytes_key_of_nonnull(cache: *mut Handle, pin: Pin, buffer: *mut u8, room: usize)
+    -> Told;
     fn lru_bytes_begin_nonnull(
         cache: *mut Handle,
         key: *const u8,
@@ -151,6 +170,7 @@ impl<'a> HashedBytes<'a> {
 impl sealed::Calls for Bytes {
     type Written<'a> = &'a [u8];
     type Hashed<'a> = HashedBytes<'a>;
+    type Room = Vec<u8>;
 
     const KIND: u32 = ffi::BYTES;
 
@@ -161,6 +181,24 @@ impl sealed::Calls for Bytes {
 
     fn hashed<'a>(key: &'a &[u8], seed: u64) -> HashedBytes<'a> {
         HashedBytes::of(key, seed)
+    }
+
+    unsafe fn key_of(cache: *mut Handle, pin: Pin, room: &mut Vec<u8>) -> Result<&[u8], Refusal> {
+        let at = room.as_mut_ptr();
+        // SAFETY: the pointer of a vector is not null and points to its bytes. The caller
+        // guarantees the rest.
+        let mut told = unsafe { lru_bytes_key_of_nonnull(cache, pin, at, room.len()) };
+        if told.code == ffi::NO_ROOM {
+            // The key is in memory, so its length fits.
+            let length = told.value as usize;
+            let reserved = room.try_reserve(length - room.len());
+            reserved.map_err(|_| Refusal::Memory)?;
+            room.resize(length, 0);
+            // SAFETY: as above.
+            told = unsafe { lru_bytes_key_of_nonnull(cache, pin, room.as_mut_ptr(), length) };
+        }
+        debug_assert_eq!(told.code, ffi::NUMBER);
+        Ok(&room[..told.value as usize])
     }
 
     unsafe fn begin(
@@ -222,6 +260,7 @@ pub enum CowBytes {}
 impl sealed::Calls for CowBytes {
     type Written<'a> = Cow<'a, [u8]>;
     type Hashed<'a> = HashedBytes<'a>;
+    type Room = Vec<u8>;
 
     const KIND: u32 = Bytes::KIND;
 
@@ -231,6 +270,15 @@ impl sealed::Calls for CowBytes {
 
     fn hashed<'a>(key: &'a Cow<'_, [u8]>, seed: u64) -> HashedBytes<'a> {
         HashedBytes::of(key, seed)
+    }
+
+    unsafe fn key_of(
+        cache: *mut Handle,
+        pin: Pin,
+        room: &mut Vec<u8>,
+    ) -> Result<Cow<'_, [u8]>, Refusal> {
+        // SAFETY: the caller guarantees what the function requires.
+        unsafe { Bytes::key_of(cache, pin, room) }.map(Cow::Borrowed)
     }
 
     unsafe fn begin(
@@ -282,6 +330,7 @@ impl sealed::Calls for CowBytes {
 pub enum Words {}
 
 unsafe extern "C" {
+    fn lru_words_key_of(cache: *mut Handle, pin: Pin, first: *mut u64, second: *mut u64) -> u32;
     fn lru_words_begin(
         cache: *mut Handle,
         first: u64,
@@ -314,6 +363,7 @@ unsafe extern "C" {
 impl sealed::Calls for Words {
     type Written<'a> = [u64; 2];
     type Hashed<'a> = [u64; 2];
+    type Room = ();
 
     const KIND: u32 = ffi::WORDS;
 
@@ -324,6 +374,14 @@ impl sealed::Calls for Words {
 
     fn hashed(key: &[u64; 2], _seed: u64) -> [u64; 2] {
         *key
+    }
+
+    unsafe fn key_of(cache: *mut Handle, pin: Pin, _room: &mut ()) -> Result<[u64; 2], Refusal> {
+        let [mut first, mut second] = [0; 2];
+        // SAFETY: the caller guarantees what the function requires.
+        let code = unsafe { lru_words_key_of(cache, pin, &mut first, &mut second) };
+        debug_assert_eq!(code, ffi::DONE);
+        Ok([first, second])
     }
 
     unsafe fn begin(

@@ -19,10 +19,10 @@
 //! - A charge must be above 0, even if the key has a value.
 //! - A number of shards is a [`NonZeroUsize`](std::num::NonZeroUsize), and a small capacity is
 //!   divided among fewer than 16 shards ([`sharded::shards_for`]).
-//! - It has more calls: `insert`, `invalidate`, `read`, `contains`, `len`, `pinned_charge`,
-//!   `capacity`, `set_capacity`, `set_strict_limit`, `is_limit_strict`, `for_each`, `stats`, and
-//!   those that return an [`unsharded::OwnedHandle`], a handle that keeps its cache alive. Handles
-//!   have `try_clone` and `release_and_evict`.
+//! - It has more calls: `insert`, `invalidate`, `clear`, `retain`, `read`, `contains`, `len`,
+//!   `pinned_charge`, `capacity`, `set_capacity`, `set_strict_limit`, `is_limit_strict`,
+//!   `for_each`, `stats`, and those that return an [`unsharded::OwnedHandle`], a handle that keeps
+//!   its cache alive. Handles have `try_clone` and `release_and_evict`.
 //!
 //! # Examples
 //!
@@ -55,6 +55,7 @@ mod ffi;
 mod form;
 mod hash;
 pub mod key;
+mod makings;
 mod proved;
 pub mod sharded;
 mod stats;

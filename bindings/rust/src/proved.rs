@@ -6,8 +6,8 @@ use std::ptr::{self, NonNull};
 
 use crate::entry::EntryRef;
 use crate::error::Refusal;
-use crate::ffi::{self, Gone, Handle, Pin, Told};
-use crate::form::{Form, Hashed};
+use crate::ffi::{self, Entry, Gone, Handle, Pin, Told};
+use crate::form::{Form, Hashed, Written};
 
 /// Evicted values, oldest first. They must be dropped after the lock is released.
 pub(crate) type Evicted<V> = Vec<Box<V>>;
@@ -94,11 +94,22 @@ impl<F: Form, V> Core<F, V> {
         value_of(word)
     }
 
-    /// Tells that the caller could not make the value, and gives its pin back.
-    pub(crate) fn fail(&mut self, pin: Pin) {
+    /// The number of pins of an entry that has a value.
+    pub(crate) fn pins(&mut self, pin: Pin) -> u32 {
+        let mut entry = Entry::NONE;
+        // SAFETY: this core has the only copy of the handle.
+        let code = unsafe { ffi::lru_cache_entry(&mut self.cache, pin, &mut entry) };
+        debug_assert_eq!(code, ffi::DONE);
+        entry.pins
+    }
+
+    /// Tells that the caller could not make the value, and gives its pin back. Returns whether
+    /// others wait for the value, one of which makes it now.
+    pub(crate) fn fail(&mut self, pin: Pin) -> bool {
         // SAFETY: this core has the only copy of the handle.
         let code = unsafe { ffi::lru_cache_fail(&mut self.cache, pin) };
         debug_assert!(matches!(code, ffi::LEFT | ffi::REMOVED));
+        code == ffi::LEFT
     }
 
     /// Finds the value of a key and pins its entry.
@@ -258,9 +269,92 @@ impl<F: Form, V> Core<F, V> {
     }
 
     /// Calls `visit` for each value that its key finds.
-    pub(crate) fn for_each(&mut self, mut visit: impl FnMut(EntryRef<'_, V>)) {
-        let len = usize::try_from(self.len()).expect("each entry takes memory");
-        let mut entries = vec![ffi::Entry::NONE; len];
+    pub(crate) fn for_each(
+        &mut self,
+        mut visit: impl FnMut(EntryRef<'_, V, Written<'_, F>>),
+    ) -> Result<(), Refusal> {
+        let mut room = F::Room::default();
+        for entry in self.findable()? {
+            let key = self.key_of(entry.pin, &mut room)?;
+            visit(EntryRef {
+                key,
+                value: self.value_of_entry(&entry),
+                charge: entry.charge,
+                pins: entry.pins,
+            });
+        }
+        Ok(())
+    }
+
+    /// Detaches the entries for whose values `keep` returns false, as `invalidate` does. If `keep`
+    /// panics, or if it is refused, nothing has changed.
+    pub(crate) fn retain(
+        &mut self,
+        seed: u64,
+        evicted: &mut Evicted<V>,
+        mut keep: impl FnMut(Written<'_, F>, &V, u64) -> bool,
+    ) -> Result<(), Refusal> {
+        let mut room = F::Room::default();
+        let mut pins = Vec::new();
+        let entries = self.findable()?;
+        reserve(&mut pins, entries.len())?;
+        for entry in &entries {
+            let key = self.key_of(entry.pin, &mut room)?;
+            if !keep(key, self.value_of_entry(entry), entry.charge) {
+                pins.push(entry.pin);
+            }
+        }
+        reserve(evicted, pins.len())?;
+        self.detach(&pins, seed, &mut room, evicted)
+    }
+
+    /// Detaches every entry, as `invalidate` does. `makings` has the pins of those whose values are
+    /// being made. If it is refused, nothing has changed.
+    pub(crate) fn clear(
+        &mut self,
+        makings: impl Iterator<Item = Pin>,
+        seed: u64,
+        evicted: &mut Evicted<V>,
+    ) -> Result<(), Refusal> {
+        let mut room = F::Room::default();
+        let mut pins = Vec::new();
+        reserve(evicted, self.room_for_all())?;
+        if self.pinned_charge() != 0 {
+            reserve(&mut pins, self.room_for_all())?;
+            let entries = self.findable()?;
+            let held = entries.iter().filter(|entry| entry.pins != 0);
+            pins.extend(held.map(|entry| entry.pin).chain(makings));
+            // Once there is room for each of these keys, nothing is refused any more.
+            for pin in &pins {
+                self.key_of(*pin, &mut room)?;
+            }
+        }
+        self.detach(&pins, seed, &mut room, evicted)?;
+        self.prune(evicted);
+        Ok(())
+    }
+
+    /// Detaches entries by their pins. The keys of all of them were copied to this room before.
+    fn detach(
+        &mut self,
+        pins: &[Pin],
+        seed: u64,
+        room: &mut F::Room,
+        evicted: &mut Evicted<V>,
+    ) -> Result<(), Refusal> {
+        for pin in pins {
+            let key = self.key_of(*pin, room)?;
+            self.invalidate(F::hashed(&key, seed), evicted)?;
+        }
+        Ok(())
+    }
+
+    /// The entries that have a value which their keys find.
+    fn findable(&mut self) -> Result<Vec<Entry>, Refusal> {
+        let len = self.room_for_all();
+        let mut entries = Vec::new();
+        reserve(&mut entries, len)?;
+        entries.resize(len, Entry::NONE);
         // SAFETY: this core has the only copy of the handle, and the buffer has room for `len`
         // entries, which is enough.
         let told = unsafe {
@@ -268,16 +362,26 @@ impl<F: Form, V> Core<F, V> {
         };
         debug_assert_eq!(told.code, ffi::NUMBER);
         entries.truncate(usize::try_from(told.value).unwrap_or(len));
-        for entry in entries.iter().filter(|entry| entry.is_detached == 0) {
-            // SAFETY: the word is the address of a box that `ready` or `insert` stored, and no
-            // entry is evicted while this core is borrowed. Others have shared references only.
-            let value = unsafe { value_of(entry.value).as_ref() };
-            visit(EntryRef {
-                value,
-                charge: entry.charge,
-                pins: entry.pins,
-            });
-        }
+        entries.retain(|entry| entry.is_detached == 0);
+        Ok(entries)
+    }
+
+    /// How many entries a list of all of them has room for.
+    fn room_for_all(&mut self) -> usize {
+        usize::try_from(self.len()).expect("each entry takes memory")
+    }
+
+    /// The key of an entry of this core.
+    fn key_of<'a>(&mut self, pin: Pin, room: &'a mut F::Room) -> Result<Written<'a, F>, Refusal> {
+        // SAFETY: this core has the only copy of the handle, and the entry.
+        unsafe { F::key_of(&mut self.cache, pin, room) }
+    }
+
+    /// The value of an entry that this core told.
+    fn value_of_entry(&self, entry: &Entry) -> &V {
+        // SAFETY: the word is the address of a box that `ready` or `insert` stored, and no entry is
+        // evicted while this core is borrowed. Others have shared references only.
+        unsafe { value_of(entry.value).as_ref() }
     }
 
     /// What the calls have answered, and what the cache holds.
@@ -326,6 +430,11 @@ impl<F: Form, V> Drop for Core<F, V> {
         // SAFETY: as above.
         unsafe { ffi::lru_chain_free(&mut self.chain) };
     }
+}
+
+/// Makes room for more elements, so that pushing them needs no memory.
+fn reserve<T>(list: &mut Vec<T>, more: usize) -> Result<(), Refusal> {
+    list.try_reserve(more).map_err(|_| Refusal::Memory)
 }
 
 /// A seed that nobody can guess.

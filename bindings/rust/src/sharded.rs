@@ -12,6 +12,7 @@ use std::sync::Arc;
 use crate::entry::EntryRef;
 use crate::error::{GetError, Refusal};
 use crate::ffi::Pin;
+use crate::form::Written;
 use crate::key::Key;
 use crate::proved::random_seed;
 use crate::stats::Stats;
@@ -147,9 +148,40 @@ impl<K: Key + ?Sized, V, S> LruCache<K, V, S> {
         }
     }
 
+    /// Takes the value of every key away, one shard after another, as
+    /// [`unsharded::LruCache::clear`] does. What other threads insert meanwhile may stay.
+    ///
+    /// # Errors
+    ///
+    /// As [`unsharded::LruCache::clear`]. The shards before the one that refused are cleared then.
+    pub fn clear(&self) -> Result<(), Refusal> {
+        self.shards.iter().try_for_each(|shard| shard.clear())
+    }
+
+    /// Takes the values away for which `keep` returns `false`, one shard after another, as
+    /// [`unsharded::LruCache::retain`] does, each with its own lock held. What other threads insert
+    /// meanwhile may stay.
+    ///
+    /// # Errors
+    ///
+    /// As [`unsharded::LruCache::retain`]. From the shards before the one that refused, values have
+    /// left then; so they have if `keep` panics.
+    pub fn retain(
+        &self,
+        mut keep: impl FnMut(Written<'_, K::Form>, &V, u64) -> bool,
+    ) -> Result<(), Refusal> {
+        self.shards
+            .iter()
+            .try_for_each(|shard| shard.retain(&mut keep))
+    }
+
     /// Calls `visit` for each value that its key finds, as the cache behind one lock does, one
     /// shard after another, each with its own lock held.
-    pub fn for_each(&self, mut visit: impl FnMut(EntryRef<'_, V>)) {
+    ///
+    /// # Panics
+    ///
+    /// As [`unsharded::LruCache::for_each`].
+    pub fn for_each(&self, mut visit: impl FnMut(EntryRef<'_, V, Written<'_, K::Form>>)) {
         for shard in &self.shards {
             shard.for_each(&mut visit);
         }
@@ -295,14 +327,14 @@ impl<K: Key + ?Sized, V, S: BuildHasher> LruCache<K, V, S> {
     /// # Errors
     ///
     /// As [`unsharded::LruCache::get`].
-    pub fn get_owned<Q>(cache: &Arc<Self>, key: &Q) -> Result<Option<OwnedHandle<K, V, S>>, Refusal>
+    pub fn get_owned<Q>(self: &Arc<Self>, key: &Q) -> Result<Option<OwnedHandle<K, V, S>>, Refusal>
     where
         K: Borrow<Q>,
         Q: Key<Form = K::Form> + Hash + ?Sized,
     {
-        let shard = cache.shard_of(key);
-        let found = cache.shards[shard].get(key)?;
-        Ok(found.map(|handle| OwnedHandle::of(cache, shard, handle)))
+        let shard = self.shard_of(key);
+        let found = self.shards[shard].get(key)?;
+        Ok(found.map(|handle| OwnedHandle::of(self, shard, handle)))
     }
 
     /// Returns what [`get_or_init`](Self::get_or_init) returns, with a handle that borrows nothing
@@ -312,7 +344,7 @@ impl<K: Key + ?Sized, V, S: BuildHasher> LruCache<K, V, S> {
     ///
     /// As [`unsharded::LruCache::get_or_init`].
     pub fn get_or_init_owned<Q>(
-        cache: &Arc<Self>,
+        self: &Arc<Self>,
         key: &Q,
         charge: u64,
         init: impl FnOnce(&Q) -> V,
@@ -321,9 +353,9 @@ impl<K: Key + ?Sized, V, S: BuildHasher> LruCache<K, V, S> {
         K: Borrow<Q>,
         Q: Key<Form = K::Form> + Hash + ?Sized,
     {
-        let shard = cache.shard_of(key);
-        let handle = cache.shards[shard].get_or_init(key, charge, init)?;
-        Ok(OwnedHandle::of(cache, shard, handle))
+        let shard = self.shard_of(key);
+        let handle = self.shards[shard].get_or_init(key, charge, init)?;
+        Ok(OwnedHandle::of(self, shard, handle))
     }
 
     /// Returns what [`get_or_try_init`](Self::get_or_try_init) returns, with a handle that borrows
@@ -333,7 +365,7 @@ impl<K: Key + ?Sized, V, S: BuildHasher> LruCache<K, V, S> {
     ///
     /// As [`unsharded::LruCache::get_or_try_init`].
     pub fn get_or_try_init_owned<Q, E>(
-        cache: &Arc<Self>,
+        self: &Arc<Self>,
         key: &Q,
         charge: u64,
         init: impl FnOnce(&Q) -> Result<V, E>,
@@ -342,9 +374,9 @@ impl<K: Key + ?Sized, V, S: BuildHasher> LruCache<K, V, S> {
         K: Borrow<Q>,
         Q: Key<Form = K::Form> + Hash + ?Sized,
     {
-        let shard = cache.shard_of(key);
-        let handle = cache.shards[shard].get_or_try_init(key, charge, init)?;
-        Ok(OwnedHandle::of(cache, shard, handle))
+        let shard = self.shard_of(key);
+        let handle = self.shards[shard].get_or_try_init(key, charge, init)?;
+        Ok(OwnedHandle::of(self, shard, handle))
     }
 
     /// Makes `value` the key's value, whatever the key had, and returns a handle of it. Handles of

@@ -15,6 +15,7 @@ use crate::ffi::Pin;
 use crate::form::sealed::Calls;
 use crate::form::{Form, Hashed, Written};
 use crate::key::Key;
+use crate::makings::Makings;
 use crate::proved::{Begun, Core, Evicted, random_seed};
 use crate::stats::Stats;
 
@@ -70,7 +71,7 @@ pub struct LruCache<K: Key + ?Sized, V> {
     shared: Mutex<Shared<K::Form, V>>,
     /// With this, keys are hashed before the lock is taken.
     seed: u64,
-    /// Notified when a caller has made a value, or has failed to.
+    /// Notified when a value was made, or could not be made, that others wait for.
     ended: Condvar,
     keys: PhantomData<fn(&K)>,
     // Threads that share a cache also share its values, through handles.
@@ -82,6 +83,8 @@ struct Shared<F: Form, V> {
     core: Core<F, V>,
     /// The number of callers that wait for a value.
     waiting: usize,
+    /// The values that are being made. There is room for one of each caller that waits.
+    makings: Makings,
 }
 
 impl<K: Key + ?Sized, V> LruCache<K, V> {
@@ -125,6 +128,7 @@ impl<K: Key + ?Sized, V> LruCache<K, V> {
             shared: Mutex::new(Shared {
                 core: Core::new(capacity, seed)?,
                 waiting: 0,
+                makings: Makings::default(),
             }),
             seed,
             ended: Condvar::new(),
@@ -264,19 +268,19 @@ impl<K: Key + ?Sized, V> LruCache<K, V> {
     /// # fn main() -> Result<(), concurrent_lru_proved::Refusal> {
     /// let cache = Arc::new(LruCache::<u64, String>::new(10)?);
     /// cache.insert(&7, 1, "seven".to_string())?;
-    /// let handle = LruCache::get_owned(&cache, &7)?.expect("it was inserted");
+    /// let handle = cache.get_owned(&7)?.expect("it was inserted");
     /// drop(cache);
     /// assert_eq!(*handle, "seven");
     /// # Ok(())
     /// # }
     /// ```
-    pub fn get_owned<Q>(cache: &Arc<Self>, key: &Q) -> Result<Option<OwnedHandle<K, V>>, Refusal>
+    pub fn get_owned<Q>(self: &Arc<Self>, key: &Q) -> Result<Option<OwnedHandle<K, V>>, Refusal>
     where
         K: Borrow<Q>,
         Q: Key<Form = K::Form> + ?Sized,
     {
-        let found = cache.get(key)?;
-        Ok(found.map(|handle| OwnedHandle::of(cache, handle)))
+        let found = self.get(key)?;
+        Ok(found.map(|handle| OwnedHandle::of(self, handle)))
     }
 
     /// Returns what [`get_or_init`](Self::get_or_init) returns, with a handle that borrows nothing
@@ -286,7 +290,7 @@ impl<K: Key + ?Sized, V> LruCache<K, V> {
     ///
     /// As [`get_or_init`](Self::get_or_init).
     pub fn get_or_init_owned<Q>(
-        cache: &Arc<Self>,
+        self: &Arc<Self>,
         key: &Q,
         charge: u64,
         init: impl FnOnce(&Q) -> V,
@@ -295,8 +299,8 @@ impl<K: Key + ?Sized, V> LruCache<K, V> {
         K: Borrow<Q>,
         Q: Key<Form = K::Form> + ?Sized,
     {
-        let handle = cache.get_or_init(key, charge, init)?;
-        Ok(OwnedHandle::of(cache, handle))
+        let handle = self.get_or_init(key, charge, init)?;
+        Ok(OwnedHandle::of(self, handle))
     }
 
     /// Returns what [`get_or_try_init`](Self::get_or_try_init) returns, with a handle that borrows
@@ -306,7 +310,7 @@ impl<K: Key + ?Sized, V> LruCache<K, V> {
     ///
     /// As [`get_or_try_init`](Self::get_or_try_init).
     pub fn get_or_try_init_owned<Q, E>(
-        cache: &Arc<Self>,
+        self: &Arc<Self>,
         key: &Q,
         charge: u64,
         init: impl FnOnce(&Q) -> Result<V, E>,
@@ -315,8 +319,8 @@ impl<K: Key + ?Sized, V> LruCache<K, V> {
         K: Borrow<Q>,
         Q: Key<Form = K::Form> + ?Sized,
     {
-        let handle = cache.get_or_try_init(key, charge, init)?;
-        Ok(OwnedHandle::of(cache, handle))
+        let handle = self.get_or_try_init(key, charge, init)?;
+        Ok(OwnedHandle::of(self, handle))
     }
 
     /// Makes `value` the key's value, whatever the key had, and returns a handle of it. Does not
@@ -414,6 +418,83 @@ impl<K: Key + ?Sized, V> LruCache<K, V> {
         self.lock().core.prune(&mut evicted);
     }
 
+    /// Takes the value of every key away, as [`invalidate`](Self::invalidate) does for one key, so
+    /// that no key finds what was there or was being made.
+    ///
+    /// Idle values are evicted, and the others with their last handles. Callers that wait for a
+    /// value that is being made still get that one.
+    ///
+    /// # Errors
+    ///
+    /// [`Refusal::Memory`] if there is no memory for a list of all values. Nothing has changed
+    /// then.
+    ///
+    /// # Examples
+    ///
+    /// ```
+    /// use concurrent_lru_proved::unsharded::LruCache;
+    ///
+    /// # fn main() -> Result<(), concurrent_lru_proved::Refusal> {
+    /// let cache = LruCache::<u64, &str>::new(10)?;
+    /// let seven = cache.insert(&7, 1, "seven")?;
+    /// cache.insert(&8, 1, "eight")?;
+    /// cache.clear()?;
+    /// assert!(!cache.contains(&7)? && !cache.contains(&8)?);
+    /// assert_eq!((*seven, cache.len()), ("seven", 1));
+    /// # Ok(())
+    /// # }
+    /// ```
+    pub fn clear(&self) -> Result<(), Refusal> {
+        let mut evicted = Evicted::new();
+        let mut shared = self.lock();
+        let Shared { core, makings, .. } = &mut *shared;
+        core.clear(makings.pins(), self.seed, &mut evicted)
+    }
+
+    /// Takes the values away, as [`invalidate`](Self::invalidate) does, for which `keep` returns
+    /// `false`. It is called with each key, value and charge once, in no particular order. Values
+    /// that are being made stay.
+    ///
+    /// Keys are passed as they are written, like those of [`for_each`](Self::for_each). The lock is
+    /// held meanwhile, so `keep` must not call the cache or drop a handle of it, which would wait
+    /// for the lock for ever, and other calls wait. Values are dropped after the lock is released.
+    /// If `keep` panics, no value has left.
+    ///
+    /// # Errors
+    ///
+    /// [`Refusal::Memory`] if there is no memory for a list of all values or for a copy of a key.
+    /// Nothing has changed then.
+    ///
+    /// # Examples
+    ///
+    /// ```
+    /// use concurrent_lru_proved::unsharded::LruCache;
+    ///
+    /// # fn main() -> Result<(), concurrent_lru_proved::Refusal> {
+    /// // The keys are a file and a page of it.
+    /// let pages = LruCache::<(u32, u64), &str>::new(100)?;
+    /// pages.insert(&(1, 7), 1, "a page")?;
+    /// pages.insert(&(2, 7), 1, "a page of another file")?;
+    /// pages.retain(|[file, _], _, _| file != 1)?;
+    /// assert!(!pages.contains(&(1, 7))? && pages.contains(&(2, 7))?);
+    ///
+    /// let texts = LruCache::<String, &str>::new(100)?;
+    /// texts.insert("/tmp/a", 1, "short")?;
+    /// texts.insert("/etc/b", 90, "large")?;
+    /// texts.retain(|path, _, charge| !path.starts_with(b"/tmp/") && charge < 50)?;
+    /// assert!(texts.is_empty());
+    /// # Ok(())
+    /// # }
+    /// ```
+    pub fn retain(
+        &self,
+        keep: impl FnMut(Written<'_, K::Form>, &V, u64) -> bool,
+    ) -> Result<(), Refusal> {
+        let mut evicted = Evicted::new();
+        // The lock is released at the end of this expression, before any value is dropped.
+        self.lock().core.retain(self.seed, &mut evicted, keep)
+    }
+
     /// Returns whether the key has a value, as [`get`](Self::get) looks for it. Pins nothing, and
     /// does not count as a use.
     ///
@@ -461,6 +542,9 @@ impl<K: Key + ?Sized, V> LruCache<K, V> {
     /// being made are left out, and so are those that were invalidated or replaced. This is no use
     /// of a value: the order of eviction stays as it is.
     ///
+    /// The library stores a key as it is [written](Key::written), and so it is passed. A number is
+    /// the second of two words.
+    ///
     /// The lock is held meanwhile, so `visit` must not call the cache or drop a handle of it, which
     /// would wait for the lock for ever, and other calls wait until all values are visited.
     ///
@@ -476,16 +560,22 @@ impl<K: Key + ?Sized, V> LruCache<K, V> {
     /// let mut idle = Vec::new();
     /// cache.for_each(|entry| {
     ///     if entry.pins == 0 {
-    ///         idle.push((*entry.value, entry.charge));
+    ///         let [_, key] = entry.key;
+    ///         idle.push((key, *entry.value, entry.charge));
     ///     }
     /// });
-    /// assert_eq!(idle, [("seven", 3)]);
+    /// assert_eq!(idle, [(7, "seven", 3)]);
     /// drop(eight);
     /// # Ok(())
     /// # }
     /// ```
-    pub fn for_each(&self, visit: impl FnMut(EntryRef<'_, V>)) {
-        self.lock().core.for_each(visit);
+    ///
+    /// # Panics
+    ///
+    /// If there is no memory for a list of all values or for a copy of a key.
+    pub fn for_each(&self, visit: impl FnMut(EntryRef<'_, V, Written<'_, K::Form>>)) {
+        let visited = self.lock().core.for_each(visit);
+        visited.expect("there is memory for the list of all values");
     }
 
     /// Returns how often calls hit and missed since the cache was created, what was inserted and
@@ -550,11 +640,17 @@ impl<K: Key + ?Sized, V> LruCache<K, V> {
         evicted: &mut Evicted<V>,
     ) -> Result<Asked<'_, K, V>, Refusal> {
         let mut shared = self.lock();
+        let more = 1 + shared.waiting;
+        shared.makings.reserve(more)?;
         let mut begun = shared.core.begin(hashed, charge, evicted)?;
         loop {
             match begun {
                 Begun::Hit(pin, value) => return Ok(Asked::Found(self.handle(pin, value))),
-                Begun::Make(pin) => return Ok(Asked::Making(Making { cache: self, pin })),
+                Begun::Make(pin) => {
+                    let place = shared.makings.add(pin);
+                    let cache = self;
+                    return Ok(Asked::Making(Making { cache, pin, place }));
+                }
                 Begun::Wait(pin) => {
                     shared.waiting += 1;
                     shared = unpoisoned(self.ended.wait(shared));
@@ -596,17 +692,22 @@ impl<K: Key + ?Sized, V> LruCache<K, V> {
         unpoisoned(self.shared.lock())
     }
 
-    /// Releases the lock, and wakes the callers that wait for a value.
-    fn wake(&self, shared: MutexGuard<'_, Shared<K::Form, V>>) {
-        let waiting = shared.waiting;
+    /// Releases the lock, and wakes the callers that wait if one of them waits for the value that
+    /// was made, or could not be made.
+    ///
+    /// All that wait, for whatever value, wait at one condition: a slow value whose key many ask
+    /// for would else make them wake for each value that is made meanwhile. Who waits took its pin
+    /// with the lock held, and lets go of the lock only by waiting, so no notification is missed.
+    fn wake(&self, shared: MutexGuard<'_, Shared<K::Form, V>>, is_awaited: bool) {
         drop(shared);
-        if waiting > 0 {
+        if is_awaited {
             self.ended.notify_all();
         }
     }
 }
 
-/// No code of the user runs under the lock, so a poisoned one guards a sound cache.
+/// Code of the user that runs under the lock, as in `for_each` and `retain`, only looks. So a
+/// poisoned lock guards a sound cache.
 fn unpoisoned<T>(locked: Result<T, PoisonError<T>>) -> T {
     locked.unwrap_or_else(PoisonError::into_inner)
 }
@@ -630,15 +731,20 @@ enum Asked<'a, K: Key + ?Sized, V> {
 struct Making<'a, K: Key + ?Sized, V> {
     cache: &'a LruCache<K, V>,
     pin: Pin,
+    /// Where the pin stands among those of the cache.
+    place: usize,
 }
 
 impl<'a, K: Key + ?Sized, V> Making<'a, K, V> {
     /// Stores the value.
     fn end(self, value: Box<V>) -> CacheHandle<'a, K, V> {
         let mut shared = self.cache.lock();
+        shared.makings.remove(self.place);
         let value = shared.core.ready(self.pin, value);
         let handle = self.cache.handle(self.pin, value);
-        self.cache.wake(shared);
+        // Who waits for the value has a pin too.
+        let is_awaited = shared.waiting > 0 && shared.core.pins(self.pin) > 1;
+        self.cache.wake(shared, is_awaited);
         mem::forget(self);
         handle
     }
@@ -647,8 +753,9 @@ impl<'a, K: Key + ?Sized, V> Making<'a, K, V> {
 impl<K: Key + ?Sized, V> Drop for Making<'_, K, V> {
     fn drop(&mut self) {
         let mut shared = self.cache.lock();
-        shared.core.fail(self.pin);
-        self.cache.wake(shared);
+        shared.makings.remove(self.place);
+        let is_awaited = shared.core.fail(self.pin);
+        self.cache.wake(shared, is_awaited);
     }
 }
 
@@ -814,7 +921,7 @@ impl<K: Key + ?Sized, V> OwnedHandle<K, V> {
     ///
     /// # fn main() -> Result<(), concurrent_lru_proved::Refusal> {
     /// let cache = Arc::new(LruCache::<u64, String>::new(10)?);
-    /// let handle = LruCache::get_or_init_owned(&cache, &7, 1, |key| key.to_string())?;
+    /// let handle = cache.get_or_init_owned(&7, 1, |key| key.to_string())?;
     /// let clone = handle.try_clone()?;
     /// let length = thread::spawn(move || clone.len());
     /// assert_eq!(length.join().ok(), Some(handle.len()));

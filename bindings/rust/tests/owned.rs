@@ -147,3 +147,20 @@ fn handles_of_shards_keep_the_whole_cache() -> Result<(), Refusal> {
     assert_eq!(dropped.load(Ordering::SeqCst), 20);
     Ok(())
 }
+
+#[test]
+fn owned_handles_come_from_methods_and_functions() -> Result<(), GetError<()>> {
+    let cache = Arc::new(unsharded::LruCache::<u64, u64>::new(10)?);
+    assert_eq!(*cache.get_or_init_owned(&1, 1, |_| 5)?, 5);
+    assert_eq!(*cache.get_or_try_init_owned(&2, 1, |_| Ok(6))?, 6);
+    let owned = cache.get_owned(&1)?.map(|handle| *handle);
+    let by_function = unsharded::LruCache::get_owned(&cache, &1)?.map(|handle| *handle);
+    assert_eq!((owned, by_function), (Some(5), Some(5)));
+    let cache = Arc::new(sharded::LruCache::<u64, u64>::new(1000)?);
+    assert_eq!(*cache.get_or_init_owned(&1, 1, |_| 5)?, 5);
+    assert_eq!(*cache.get_or_try_init_owned(&2, 1, |_| Ok(6))?, 6);
+    let owned = cache.get_owned(&1)?.map(|handle| *handle);
+    let by_function = sharded::LruCache::get_owned(&cache, &1)?.map(|handle| *handle);
+    assert_eq!((owned, by_function), (Some(5), Some(5)));
+    Ok(())
+}
