@@ -79,10 +79,10 @@ fn then_of(drawn: u64) -> Then {
     }
 }
 
-/// Makes the calls that a seed determines on two empty caches. Fails if they say different things of
-/// themselves before the first call, and at the first call where their answers differ, or what they
-/// say of themselves after it; the failure tells the seed, the call, the answer and the expected
-/// answer.
+/// Makes the calls that a seed determines on two empty caches. Fails if they say different things
+/// of themselves before the first call, and at the first call where their answers differ, or what
+/// they say of themselves after it; the failure tells the seed, the call, the answer and the
+/// expected answer.
 pub(crate) fn agree<C: Answers<ThreadedCall>, M: Answers<ThreadedCall>>(
     alloc: Global,
     seed: u64,
