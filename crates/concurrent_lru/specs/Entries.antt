@@ -1,13 +1,13 @@
 -- The view of a `Table`: its idle and held entries, and the stamp of the entry at each place. What
 -- each of its calls changes.
-use Rattle.std.specs.Prelude.{◌≡◌, ◌≢◌, ℕ, ◌+◌, ◌++◌, ◌∷◌, [], Bool, true, false, List, Option, IsSome, Some, None, refl}
-use Rattle.std.specs.Option.{option_map, option_map_or}
+use Rattle.std.specs.Prelude.{◌≡◌, ◌≢◌, ℕ, ◌+◌, ◌++◌, ◌∷◌, [], Bool, true, false, List, Option, IsSome, Some, refl}
+use Rattle.std.specs.Option.{option_map_or}
 use Rattle.std.specs.Ordering.{nat_cmp}
 use Rattle.std.specs.Coded.{Coded, code_by, coded×, coded_ℕ, coded_list}
 use Rattle.std.specs.FinMap as finmap
 use Rattle.concurrent_lru.specs.Cache.{Cache, Idle, Held, IsEntry, IsFound, idle_at, held_at, idle_code, held_code, charges, making, ready}
 use Rattle.concurrent_lru.specs.Steps.{without, held_by_one, held_detached, idle_again}
-use Rattle.concurrent_lru.specs.NodeTable.{Entry, entry_of, chain_of, value_in, value_of}
+use Rattle.concurrent_lru.specs.NodeTable.{Entry, entry_of, chain_of}
 use Rattle.concurrent_lru.specs.Representation.{as_idle, held_entry, held_charges}
 use Rattle.concurrent_lru.specs.declared.node_table.Node.{Node}
 
@@ -84,15 +84,10 @@ module _ {K V : Type 0} where
   abbrev pub pins_at : Entries K V → ℕ → ℕ
   pins_at t p = option_map_or (λ s. option_map_or (λ e. e.pins) (finmap.get t.held s) 0) (finmap.get t.stamps p) 0
 
-  -- the value of the entry at the place, if it has one
-  abbrev pub value_at : Entries K V → ℕ → Option V
-  value_at t p = option_map_or (λ s. option_map_or (λ e. value_in e.phase) (finmap.get t.held s) (option_map (λ x. x.value) (idle_at (cache_of t) s))) (finmap.get t.stamps p) None
-
   -- the node n is that of the entry at the place, and no chain is behind it
   pub record GetsNodeAt (t : Entries K V) (p : ℕ) (n : Node K V) : Type 0 where
     pub entry : GetsAt t p (entry_of n)
     pub pins : pins_at t p ≡ (entry_of n).pins
-    pub value : value_at t p ≡ value_of (entry_of n)
     pub alone : chain_of n ≡ []
 
   -- a new held entry: it has one pin, and its value is being made

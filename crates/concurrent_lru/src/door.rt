@@ -5,12 +5,10 @@
 ghost use Rattle.std.specs.Prelude.{◌≡◌, ◌≢◌, ◌<◌, Some, IfOk, IfErr};
 ghost use Rattle.std.specs.Arc.{arc_value};
 ghost use Rattle.std.specs.Sync.Mutex.{mutex_guard_value};
-ghost use Rattle.concurrent_lru.specs.Cache.{IsLawful, CopiesAreEqual, IsSettled};
-ghost use Rattle.concurrent_lru.specs.CountedCalls.{AddUp};
+ghost use Rattle.concurrent_lru.specs.Cache.{CopiesAreEqual};
 ghost use Rattle.concurrent_lru.specs.Debts.{AsksOnEntry, IfEntered};
 ghost use Rattle.concurrent_lru.specs.Doors.{IsLookupFor};
 ghost use Rattle.concurrent_lru.specs.Pins.{IsHandleFor};
-ghost use Rattle.concurrent_lru.specs.Ready.{ValuesFit};
 
 use crate::fit::Fit;
 use crate::handle::CacheHandle;
@@ -75,23 +73,14 @@ impl<K: Hash + Eq + Clone + Drop, V: Drop, R: Wait, F: Fit<K, V>> Door<K, V, R, 
         }
     }
 
-    /// Acquires the lock. Each call acquires it here first, so these clauses hold of every state
-    /// that a call meets.
+    /// Acquires the lock. Each call acquires it here first. What holds of every state that a call
+    /// meets is the invariant of `Locked`, which `Locked::state` states.
     #[inline(always)]
-    pub fn lock(&self) -> MutexGuard<'_, Locked<K, V, F>>
-        ensures lawful { IsLawful K.eq (mutex_guard_value result).cache }
-        ensures settled { IsSettled (mutex_guard_value result).cache }
-        ensures kept { ValuesFit F.fits (mutex_guard_value result).cache }
-        ensures adds_up { AddUp (mutex_guard_value result).cache
-            (mutex_guard_value result).counts }
-    {
-        let guard = match self.locked.try_lock() {
+    pub fn lock(&self) -> MutexGuard<'_, Locked<K, V, F>> {
+        match self.locked.try_lock() {
             Some(guard) => guard,
             None => self.lock_slow(),
-        };
-        // For its clauses, which hold of what the lock guards.
-        let _ = guard.state();
-        guard
+        }
     }
 
     // Acquires a lock that another call holds. Calls are shorter than a sleep and a wakeup, so this
@@ -213,6 +202,7 @@ impl<K: Hash + Eq + Clone + Drop, V: Drop, R: Wait, F: Fit<K, V>> Door<K, V, R, 
     /// Returns `Memory` if a copy of the `Arc` is refused, and `Overflow` as there.
     pub fn repin(&self, pin: &HeldPin<K, V, F>) -> Result<HeldPin<K, V, F>, Refusal>
         ensures pin { IfOk result (λ another. another ≡ pin.now) }
+        ensures fits { IfOk result (λ another. F.fits another.key another.value) }
         ensures never_stale { IfErr result (λ e. e ≢ Refusal.Stale) }
     {
         let read = pin.share()?;

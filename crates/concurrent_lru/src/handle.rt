@@ -39,10 +39,7 @@ impl<'a, K: Hash + Eq + Clone, V, R: Wait, F: Fit<K, V>> CacheHandle<'a, K, V, R
         ensures key { result.key ≡ pin.key }
         ensures charge { result.charge ≡ pin.charge }
         ensures value { result.value ≡ pin.value }
-        ensures fits { F.fits pin.key pin.value }
     {
-        // The pin's type states that the value fits.
-        let _ = pin.value();
         CacheHandle { door, pin }
     }
 

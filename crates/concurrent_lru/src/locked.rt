@@ -109,9 +109,10 @@ impl<K: Hash + Eq + Clone + Drop, V: Drop, F: Fit<K, V>> Locked<K, V, F> {
         &self.state
     }
 
-    /// Returns the counts.
+    /// Returns the counts, which add up to the entries and their charges.
     pub fn counts(&self) -> Counts
-        ensures { result ≡ self.now.counts }
+        ensures counted { result ≡ self.now.counts }
+        ensures adds_up { AddUp self.now.cache result }
     {
         self.counts
     }
@@ -119,6 +120,7 @@ impl<K: Hash + Eq + Clone + Drop, V: Drop, F: Fit<K, V>> Locked<K, V, F> {
     /// Returns the counts and starts the counting again.
     pub fn reset_counts(&mut self) -> Counts
         ensures counted { result ≡ self.old.counts }
+        ensures adds_up { AddUp self.old.cache result }
         ensures anew { self.new.counts ≡ counts_from (count_of self.old.cache)
             (sum_of self.old.cache) }
         ensures cache { self.new.cache ≡ self.old.cache }

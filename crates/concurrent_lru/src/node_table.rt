@@ -2,10 +2,10 @@
 //! a slab of pointers to them and a table from the hashes of their keys. No key is hashed and no
 //! charge is added up here. What a node stores as its value is a parameter.
 // What a hit calls is inlined, so that results stay in registers; rare paths are left as calls.
-ghost use Rattle.std.specs.Prelude.{◌≡◌, ◌≢◌, ℕ, ◌+◌, ◌<◌, ◌≤◌, ◌^◌, ◌==◌, Some, None, [], ◌∷◌, ◌++◌, filter, not, IsSome, OnOk, OnErr, IfOk, IfErr, IfSome, IsTrue, IsFalse, MatchOption, slice_get, nat_eq};
+ghost use Rattle.std.specs.Prelude.{◌≡◌, ◌≢◌, ℕ, ◌+◌, ◌<◌, ◌≤◌, ◌^◌, ◌==◌, Some, None, [], ◌∷◌, ◌++◌, filter, not, OnOk, IfErr, IfSome, IsTrue, IsFalse, MatchOption, slice_get, nat_eq};
 ghost use Rattle.std.specs.List.{IsDistinct};
 ghost use Rattle.std.specs.FinMap as map;
-ghost use Rattle.concurrent_lru.specs.NodeTable.{entry_of, hash_of, chain_of, value_of, update_at, entry_with_pins, entry_detached, entry_with_phase, new_entry, HasCharge, HasValue, GivesValue, ContainsNode, ContainsIdle, LacksIdle, GetsNode, HasStampAt, IsNewStamp, FindsStamp, HasKey, IsNewKey, KeepsNodes};
+ghost use Rattle.concurrent_lru.specs.NodeTable.{entry_of, hash_of, chain_of, update_at, entry_with_pins, entry_detached, entry_with_phase, new_entry, HasCharge, ContainsNode, ContainsIdle, LacksIdle, GetsNode, HasStampAt, IsNewStamp, FindsStamp, HasKey, IsNewKey};
 
 mod fields;
 mod links;
@@ -18,7 +18,6 @@ use crate::node_table::links::Order;
 pub(crate) use crate::node_table::probes::Cursor;
 use crate::node_table::probes::Step;
 pub use crate::refusal::Refusal;
-use crate::share::Stores;
 use crate::work::Work;
 use std::alloc::Global;
 use std::marker::{Model, Send, Sync};
@@ -94,20 +93,6 @@ impl<K, V> Node<K, V> {
             slot: 0,
             hash,
             next: None,
-        }
-    }
-}
-
-impl<K: Drop, V: Stores + Drop> Node<K, V> {
-    // Returns another share of the value.
-    pub(crate) fn share_value(&self) -> Result<V, Refusal>
-        requires { IsSome (value_of (entry_of self.now)) }
-        ensures value { IfOk result (λ v. value_of (entry_of self.now) ≡ Some v) }
-        ensures refusal { IfErr result (λ e. e ≡ Refusal.Memory) }
-    {
-        match &self.phase {
-            Phase::Ready(value) => Ok(value.another()?),
-            _ => unreachable!(),
         }
     }
 }
@@ -365,6 +350,7 @@ impl<K: Drop, V: Drop> Nodes<K, V> {
     pub fn node(&self, place: Place) -> &Node<K, V>
         requires { ContainsNode self.now place }
         ensures entry { map.get self.now.nodes place ≡ Some (entry_of result.now) }
+        ensures hash { map.get self.now.hashes place ≡ Some (hash_of result.now) }
         ensures alone { chain_of result.now ≡ [] }
     {
         self.order.slots.node(place.slot)
@@ -452,6 +438,37 @@ impl<K: Drop, V: Drop> Nodes<K, V> {
         self.work.tick();
     }
 
+    // Adds a pin to a node, which has `pins` pins. An idle one leaves the idle order. Returns its
+    // charge. Takes no memory.
+    #[inline(always)]
+    pub(crate) fn pin(&mut self, place: Place, near: Cursor, pins: u32) -> u64
+        requires within { ContainsNode self.old place }
+        requires idle { pins ≡ 0 → ContainsIdle self.old place }
+        requires room { pins + 1 < 2 ^ 32 }
+        ensures charge { HasCharge (map.get self.old.nodes place) result }
+        ensures nodes { self.new.nodes
+            ≡ update_at (entry_with_pins (pins + 1)) self.old.nodes place }
+        ensures revived { pins ≡ 0
+            → (self.new.idle ≡ filter (λ p. not (p == place)) self.old.idle)
+            × (self.new.work ≡ self.old.work + 1) }
+        ensures held { pins ≢ 0 → (self.new.idle ≡ self.old.idle)
+            × (self.new.work ≡ self.old.work) }
+        ensures hashes { self.new.hashes ≡ self.old.hashes }
+        ensures spare { self.old.spare ≤ self.new.spare }
+        ensures looks { self.new.looks ≤ self.old.looks + 1 }
+    {
+        let pointer = self.order.slots.look_near(place.slot, near);
+        let node = self.order.slots.follow_mut(pointer);
+        let charge = node.charge;
+        node.set_pins(pins + 1);
+        if pins > 0 {
+            return charge;
+        }
+        self.order.cut(pointer);
+        self.work.tick();
+        charge
+    }
+
     // Removes the pins of a node and makes it the newest idle one. Returns its charge. Takes no
     // memory.
     #[inline(always)]
@@ -467,8 +484,9 @@ impl<K: Drop, V: Drop> Nodes<K, V> {
         ensures looks { self.new.looks ≤ self.old.looks + 1 }
     {
         let pointer = self.order.slots.look_near(place.slot, near);
-        let charge = self.order.slots.follow(pointer).charge;
-        self.order.slots.follow_mut(pointer).set_pins(0);
+        let node = self.order.slots.follow_mut(pointer);
+        let charge = node.charge;
+        node.set_pins(0);
         self.order.push(pointer, place.slot);
         self.work.tick();
         charge
@@ -533,46 +551,5 @@ impl<K: Drop, V: Drop> Nodes<K, V> {
         ensures work { self.new.work ≡ self.old.work }
     {
         self.order.slots.take(place.slot)
-    }
-}
-
-impl<K: Drop, V: Stores + Drop> Nodes<K, V> {
-    // Adds a pin to a ready node, which has `pins` pins. An idle one leaves the idle order. Returns
-    // its value and its charge. Takes no memory except for the copy of the value. Returns `Memory`
-    // if that is refused; then nothing changes.
-    //
-    // The node is looked up before the copy, since a processor starts no later read until an atomic
-    // instruction has completed.
-    #[inline(always)]
-    pub(crate) fn pin(&mut self, place: Place, near: Cursor, pins: u32) -> Result<(V, u64), Refusal>
-        requires within { ContainsNode self.old place }
-        requires idle { pins ≡ 0 → ContainsIdle self.old place }
-        requires ready { HasValue (map.get self.old.nodes place) }
-        requires room { pins + 1 < 2 ^ 32 }
-        ensures value { GivesValue (map.get self.old.nodes place) result }
-        ensures nodes { OnOk result (self.new.nodes
-            ≡ update_at (entry_with_pins (pins + 1)) self.old.nodes place) }
-        ensures revived { OnOk result (pins ≡ 0
-            → (self.new.idle ≡ filter (λ p. not (p == place)) self.old.idle)
-            × (self.new.work ≡ self.old.work + 1)) }
-        ensures held { OnOk result (pins ≢ 0 → (self.new.idle ≡ self.old.idle)
-            × (self.new.work ≡ self.old.work)) }
-        ensures hashes { self.new.hashes ≡ self.old.hashes }
-        ensures same { OnErr result (KeepsNodes self.old self.new) }
-        ensures refusal { IfErr result (λ e. e ≡ Refusal.Memory) }
-        ensures spare { self.old.spare ≤ self.new.spare }
-        ensures looks { self.new.looks ≤ self.old.looks + 1 }
-    {
-        let pointer = self.order.slots.look_near(place.slot, near);
-        let node = self.order.slots.follow(pointer);
-        let charge = node.charge;
-        let value = node.share_value()?;
-        self.order.slots.follow_mut(pointer).set_pins(pins + 1);
-        if pins > 0 {
-            return Ok((value, charge));
-        }
-        self.order.cut(pointer);
-        self.work.tick();
-        Ok((value, charge))
     }
 }

@@ -47,10 +47,7 @@ impl<K: Hash + Eq + Clone + Drop, V: Drop, R: Wait + Drop, F: Fit<K, V>> OwnedHa
         ensures key { result.key ≡ pin.key }
         ensures charge { result.charge ≡ pin.charge }
         ensures value { result.value ≡ pin.value }
-        ensures fits { F.fits pin.key pin.value }
     {
-        // The pin's type states that the value fits.
-        let _ = pin.value();
         OwnedHandle { cache, pin }
     }
 

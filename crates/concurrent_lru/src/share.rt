@@ -90,13 +90,6 @@ impl<V: Copy> Sharing<V> for ByCopy {
     }
 }
 
-/// A stored value of which a node can hand out another. Clauses see only that both are equal.
-pub trait Stores: Sized {
-    /// Returns another. Returns `AllocError` if it is refused.
-    fn another(&self) -> Result<Self, AllocError>
-        ensures { IfOk result (λ other. other ≡ self.now) };
-}
-
 /// A share in the node of an entry. Clauses see the value.
 pub struct Stored<V, M: Sharing<V>> {
     share: M::Share,
@@ -148,10 +141,13 @@ impl<V, M: Sharing<V>> Stored<V, M> {
     }
 }
 
-impl<V: Drop, M: Sharing<V>> Stores for Stored<V, M> {
+impl<V: Drop, M: Sharing<V>> Stored<V, M> {
+    /// Returns another share. Returns `AllocError` if it is refused.
     #[inline(always)]
-    fn another(&self) -> Result<Self, AllocError> {
-        Ok(Stored::new(M::share(&self.share)?))
+    pub fn share(&self) -> Result<M::Share, AllocError>
+        ensures { IfOk result (λ other. M.seen other ≡ self.now) }
+    {
+        M::share(&self.share)
     }
 }
 

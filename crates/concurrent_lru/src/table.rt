@@ -2,14 +2,14 @@
 //! total of the charges. The order of eviction is the only rule of the cache that is decided here;
 //! the core decides when entries come and leave.
 //!
-//! A key is hashed by `Table::hash_of`, once in a call of the core, which passes the hash on with
-//! the key.
+//! A key is hashed by `Table::find_key`, once in a call of the core, which passes the hash on to
+//! the call that adds an entry for the key.
 ghost use Rattle.std.specs.Prelude.{◌≡◌, ◌≢◌, ℕ, ◌+◌, ◌<◌, ◌≤◌, ◌^◌, Some, None, [], IsSome, OnOk, OnErr, IfOk, IfErr, IfSome, MatchOption, true, cond, nat_eq};
 ghost use Rattle.concurrent_lru.specs.Cache.{count_of, pinned_of, CopiesAreEqual};
 ghost use Rattle.std.specs.FinMap as map;
 ghost use Rattle.concurrent_lru.specs.NodeTable.{Entry, entry_of, hash_of as hash_in, new_entry, chain_of, phase_of, ContainsNode, LacksIdle, IsNewStamp};
 ghost use Rattle.concurrent_lru.specs.Representation.{as_idle, GetsEntry};
-ghost use Rattle.concurrent_lru.specs.Entries.{cache_of, charges_of, ContainsNoStamp, ContainsNoKey, IsPlaceOfKey, ContainsPlace, ContainsIdleAt, ContainsHeldAt, ContainsFoundAt, GetsAt, GetsNodeAt, IsReadyAt, Rewrites, RevivesAt, RestsAt, AddsOverHeld, AddsOverIdle, pins_at, value_at, held_with_pins, new_held};
+ghost use Rattle.concurrent_lru.specs.Entries.{cache_of, charges_of, ContainsNoStamp, ContainsNoKey, IsPlaceOfKey, ContainsPlace, ContainsIdleAt, ContainsHeldAt, ContainsFoundAt, GetsAt, GetsNodeAt, IsReadyAt, Rewrites, RevivesAt, RestsAt, AddsOverHeld, AddsOverIdle, pins_at, held_with_pins, new_held};
 ghost use Rattle.concurrent_lru.specs.KeyHashes.{IsHashOf};
 ghost use Rattle.concurrent_lru.specs.Reads.{RenewsAt};
 ghost use Rattle.concurrent_lru.specs.StampIndex.{keeps_map, mapped_place, HasRoomFor};
@@ -25,7 +25,6 @@ mod word_hasher;
 pub use self::key_hashes::{KeyHash, seed_of_shard};
 pub use self::spot::{Hint, Spot};
 use crate::node_table::{Cursor, Found, Node, Nodes, Phase, Place, Refusal};
-use crate::share::Stores;
 use crate::table::stamp_index::StampIndex;
 use std::alloc::Global;
 use std::collections::HashMap;
@@ -170,23 +169,20 @@ impl<K: Hash + Eq + Clone, V: Drop> Table<K, V> {
         }
     }
 
-    /// Returns the hash of a key.
+    /// Returns the node of the entry with an equal key. If there is none, returns the hash of the
+    /// key, with which an entry can be added for it.
     #[inline(always)]
-    pub fn hash_of(&self, key: &K) -> KeyHash
-        ensures { IsHashOf K.hash_input result key.now }
+    pub fn find_key(&self, key: &K) -> Result<Found<'_, K, V>, KeyHash>
+        ensures found { IfOk result (λ found. IsPlaceOfKey K.eq self.now found.place key.now) }
+        ensures node { IfOk result (λ found. GetsNodeAt self.now found.place found.node.now) }
+        ensures absent { OnErr result (ContainsNoKey K.eq self.now key.now) }
+        ensures hash { IfErr result (λ hash. IsHashOf K.hash_input hash key.now) }
     {
-        KeyHash::of(self.seed, key)
-    }
-
-    /// Returns the node of the entry with an equal key. `hash` is the hash of the key.
-    #[inline(always)]
-    pub fn find_key(&self, hash: KeyHash, key: &K) -> Option<Found<'_, K, V>>
-        requires { IsHashOf K.hash_input hash key.now }
-        ensures found { MatchOption result (ContainsNoKey K.eq self.now key.now)
-            (λ found. IsPlaceOfKey K.eq self.now found.place key.now) }
-        ensures node { IfSome result (λ found. GetsNodeAt self.now found.place found.node.now) }
-    {
-        self.nodes.find_key(hash.under(self.seed, key), key)
+        let hash = KeyHash::of(self.seed, key);
+        match self.nodes.find_key(hash.number, key) {
+            Some(found) => Ok(found),
+            None => Err(hash),
+        }
     }
 
     /// Adds a new entry, held by one pin, whose value is being made, and returns its place. `hash`
@@ -228,11 +224,9 @@ impl<K: Hash + Eq + Clone, V: Drop> Table<K, V> {
         alloc: Global,
         place: Place,
         stamp: u64,
-        hash: KeyHash,
         key: &K,
         charge: u64,
     ) -> Result<Place, Refusal>
-        requires hash { IsHashOf K.hash_input hash key.now }
         requires held { ContainsFoundAt self.old place }
         requires keyed { (e : Entry K V) → GetsAt self.old place e → K.eq e.key key.now ≡ true }
         requires fresh { ContainsNoStamp self.old stamp }
@@ -241,7 +235,8 @@ impl<K: Hash + Eq + Clone, V: Drop> Table<K, V> {
         ensures err { OnErr result (self.new ≡ self.old) }
         ensures refusal { IfErr result (λ e. e ≡ Refusal.Memory) }
     {
-        let hash = hash.under(self.seed, key);
+        // Equal keys have the same hash.
+        let hash = self.nodes.node(place).hash;
         let node = new_entry(alloc, stamp, hash, key, charge)?;
         make_room(&mut self.nodes, &mut self.by_stamp, 1)?;
         self.nodes.set_detached(place);
@@ -257,11 +252,9 @@ impl<K: Hash + Eq + Clone, V: Drop> Table<K, V> {
         alloc: Global,
         place: Place,
         stamp: u64,
-        hash: KeyHash,
         key: &K,
         charge: u64,
     ) -> Result<(Box<Node<K, V>>, Place), Refusal>
-        requires hash { IsHashOf K.hash_input hash key.now }
         requires idle { ContainsIdleAt self.old place }
         requires keyed { (e : Entry K V) → GetsAt self.old place e → K.eq e.key key.now ≡ true }
         requires fresh { ContainsNoStamp self.old stamp }
@@ -274,7 +267,8 @@ impl<K: Hash + Eq + Clone, V: Drop> Table<K, V> {
         ensures err { OnErr result (self.new ≡ self.old) }
         ensures refusal { IfErr result (λ e. e ≡ Refusal.Memory) }
     {
-        let hash = hash.under(self.seed, key);
+        // Equal keys have the same hash.
+        let hash = self.nodes.node(place).hash;
         let node = new_entry(alloc, stamp, hash, key, charge)?;
         make_room(&mut self.nodes, &mut self.by_stamp, 1)?;
         self.nodes.remove(place);
@@ -294,6 +288,23 @@ impl<K: Hash + Eq + Clone, V: Drop> Table<K, V> {
         ensures { Rewrites (held_with_pins pins) self.old place self.new }
     {
         self.nodes.set_pins_near(place, near, pins);
+    }
+
+    /// Adds a pin to an entry, which has `pins` pins. An idle entry leaves the idle order. Takes no
+    /// memory.
+    #[inline(always)]
+    pub fn pin(&mut self, place: Place, near: Cursor, pins: u32)
+        requires place { ContainsPlace self.old place }
+        requires pins { pins_at self.old place ≡ pins }
+        requires room { pins + 1 < 2 ^ 32 }
+        ensures revived { pins ≡ 0 → RevivesAt self.old place self.new }
+        ensures held { pins ≢ 0 → Rewrites (held_with_pins (pins + 1)) self.old place self.new }
+    {
+        let charge = self.nodes.pin(place, near, pins);
+        if pins > 0 {
+            return;
+        }
+        self.idle_charge -= charge;
     }
 
     /// Detaches a held entry from its key: it is then found by its stamp only. Takes no memory.
@@ -326,37 +337,9 @@ impl<K: Hash + Eq + Clone, V: Drop> Table<K, V> {
     /// Makes an idle entry the newest idle one, as pinning and releasing it does. Takes no memory.
     pub fn renew(&mut self, place: Place, near: Cursor)
         requires { ContainsIdleAt self.old place }
-        ensures entry { RenewsAt self.old place self.new }
-        ensures value { value_at self.new place ≡ value_at self.old place }
+        ensures { RenewsAt self.old place self.new }
     {
         self.nodes.renew(place, near);
-    }
-}
-
-impl<K: Hash + Eq + Clone, V: Stores + Drop> Table<K, V> {
-    /// Adds a pin to a ready entry, which has `pins` pins, and returns its value. An idle entry
-    /// leaves the idle order.
-    ///
-    /// Returns `Memory` if the copy of the value is refused; then nothing changes.
-    #[inline(always)]
-    pub fn pin(&mut self, place: Place, near: Cursor, pins: u32) -> Result<V, Refusal>
-        requires place { ContainsPlace self.old place }
-        requires pins { pins_at self.old place ≡ pins }
-        requires ready { IsSome (value_at self.old place) }
-        requires room { pins + 1 < 2 ^ 32 }
-        ensures value { IfOk result (λ v. value_at self.old place ≡ Some v) }
-        ensures revived { OnOk result (pins ≡ 0 → RevivesAt self.old place self.new) }
-        ensures held { OnOk result (pins ≢ 0
-            → Rewrites (held_with_pins (pins + 1)) self.old place self.new) }
-        ensures err { OnErr result (self.new ≡ self.old) }
-        ensures refusal { IfErr result (λ e. e ≡ Refusal.Memory) }
-    {
-        let (value, charge) = self.nodes.pin(place, near, pins)?;
-        if pins > 0 {
-            return Ok(value);
-        }
-        self.idle_charge -= charge;
-        Ok(value)
     }
 }
 

@@ -365,11 +365,11 @@ impl<K: Hash + Eq + Clone + Drop, V: Drop, R: Wait, F: Fit<K, V>> LruCache<K, V,
     /// memory.
     ///
     /// Held entries stay and count, so a new entry may take the total above the capacity. While the
-    /// limit is strict, `get_or_init` and the calls named after it, and `insert` and
-    /// `insert_owned`, return `Full` instead, if the charge of a new entry exceeds the capacity
-    /// together with the charges of the held entries. Then nothing changes and nothing is evicted.
-    /// A call that finds an entry adds no charge, and is never refused in this way. A total that is
-    /// above the capacity when the limit becomes strict only falls until it is no longer.
+    /// limit is strict, `get_or_init` and the calls named after it, and `insert`, return `Full`
+    /// instead, if the charge of a new entry exceeds the capacity together with the charges of the
+    /// held entries. Then nothing changes and nothing is evicted. A call that finds an entry adds
+    /// no charge, and is never refused in this way. A total that is above the capacity when the
+    /// limit becomes strict only falls until it is no longer.
     pub fn set_strict_limit(&self, strict: bool) {
         let mut guard = self.door.lock();
         guard.set_strict(strict);
@@ -476,6 +476,7 @@ impl<K: Hash + Eq + Clone + Drop, V: Drop, R: Wait, F: Fit<K, V>> LruCache<K, V,
     // Adds a pin to the entry of a handle that keeps the cache alive.
     pub(crate) fn repin(&self, pin: &HeldPin<K, V, F>) -> Result<HeldPin<K, V, F>, Refusal>
         ensures pin { IfOk result (λ another. another ≡ pin.now) }
+        ensures fits { IfOk result (λ another. F.fits another.key another.value) }
         ensures never_stale { IfErr result (λ e. e ≢ Refusal.Stale) }
     {
         self.door.repin(pin)

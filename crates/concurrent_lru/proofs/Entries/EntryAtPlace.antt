@@ -10,17 +10,11 @@ use Rattle.concurrent_lru.specs.Cache.{Cache, Idle, Held, Phase, making, untaken
 use Rattle.concurrent_lru.specs.Steps.{Holds, IsNotIdle, IsUnready}
 use Rattle.concurrent_lru.specs.Request as ask
 use Rattle.concurrent_lru.specs.Runs.{HasRoomAt, IsFull, Overflows, WouldHit}
-use Rattle.concurrent_lru.specs.NodeTable.{Entry, value_in, value_of}
+use Rattle.concurrent_lru.specs.NodeTable.{Entry}
 use Rattle.concurrent_lru.specs.Representation.{as_idle, held_entry}
-use Rattle.concurrent_lru.specs.Entries.{Entries, cache_of, cache_with, ContainsEntry, FindsEntry, IsPlaceOfKey, GetsAt, ContainsIdleAt, ContainsHeldAt, ContainsFoundAt, IsReadyAt, value_at}
+use Rattle.concurrent_lru.specs.Entries.{Entries, cache_of, cache_with, ContainsEntry, FindsEntry, IsPlaceOfKey, GetsAt, ContainsIdleAt, ContainsHeldAt, ContainsFoundAt, IsReadyAt}
 use Rattle.concurrent_lru.proofs.Steps.BeginOfAbsent.{as_idle-ready}
 use Rattle.concurrent_lru.proofs.Steps.NotReady.{unready_not_ready}
-
--- the phase that has a value
-ready_with : {V : Type 0} (q : Phase V) (v : V) → value_in q ≡ Some v → q ≡ ready v
-ready_with making v h = absurd (none-some v h)
-ready_with untaken v h = absurd (none-some v h)
-ready_with (ready w) v h = ap ready (same_Some w v h)
 
 module _ {K V : Type 0} where
   -- an entry that is seen as an idle one is ready
@@ -52,10 +46,6 @@ module _ {K V : Type 0} {t : Entries K V} {p : ℕ} {e : Entry K V} (here : Gets
 
   pub found_here : e.pins ≢ 0 → e.detached ≡ false → ContainsFoundAt t p
   found_here some found = (e.stamp, here.at, held_entry e, here.held some, found)
-
-  -- an entry whose value is at the place is ready with it
-  pub value_here : (v : V) → value_at t p ≡ value_of e → value_at t p ≡ Some v → e.phase ≡ ready v
-  value_here v here at = ready_with e.phase v (sym here ∙ at)
 
   -- an entry that is not ready has a pin
   pub unready_pinned : ((v : V) → e.phase ≡ ready v → ⊥) → e.pins ≢ 0

@@ -18,6 +18,10 @@ use Rattle.concurrent_lru.proofs.Lists.Removals.{removed_other, removed_some}
 pub alike_hashes : {K : Type 0} {E : K → K → Bool} (seed : ℕ) (bytes : K → List (List ℕ)) → ((k l : K) → E k l ≡ true → bytes k ≡ bytes l) → (k l : K) → E k l ≡ true → key_hash seed bytes k ≡ key_hash seed bytes l
 alike_hashes seed bytes alike k l same = ap (λ ws. rotate_left w64 (finish (fold write (fold write initial (fed.u64 seed)) ws)) 40) (alike k l same)
 
+-- the hash in a node is that of every key equal to its own
+pub hash_alike : {K V : Type 0} {E : K → K → Bool} {H : K → ℕ} (m : FinMap nat_cmp (Entry K V)) (h : FinMap nat_cmp ℕ) → ((k l : K) → E k l ≡ true → H k ≡ H l) → AreHashed H m h → (p hash : ℕ) (e : Entry K V) (k : K) → get m p ≡ Some e → get h p ≡ Some hash → E e.key k ≡ true → hash ≡ H k
+hash_alike m h alike hashed p hash e k at is equal = same_Some _ _ (sym is ∙ hashed p e at) ∙ alike e.key k equal
+
 module _ {K V : Type 0} (H : K → ℕ) where
   pub hashed_empty : (m : FinMap nat_cmp (Entry K V)) (h : FinMap nat_cmp ℕ) → m ≡ empty → AreHashed H m h
   hashed_empty m h none p e at = absurd (none-some e (sym (get-empty nat_cmp p) ∙ sym (ap (λ n. get n p) none) ∙ at))

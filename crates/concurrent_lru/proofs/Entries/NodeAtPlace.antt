@@ -1,13 +1,13 @@
 -- The node at a place that an entry has.
-use Rattle.std.proofs.Common.{◌≡◌, ◌≢◌, ℕ, inr, List, [], ◌∷◌, ◌++◌, Option, Bool, true, false, Some, None, refl, sym, ap, ◌∙◌, subst, eqb, ◌==◌}
+use Rattle.std.proofs.Common.{◌≡◌, ◌≢◌, ℕ, inr, List, [], ◌∷◌, ◌++◌, Option, Bool, true, false, Some, None, refl, sym, ap, ◌∙◌, subst, ◌==◌}
 use Rattle.std.specs.Prelude.{IsSome, is_some, slice_get}
 use Rattle.std.specs.FinMap.{get, keys}
 use Rattle.std.proofs.lemmas.Bool.{true≢false, eqb-true, eq-eqb, ne_eqb}
 use Rattle.std.proofs.lemmas.Option.{none-some, same_Some}
 use Rattle.concurrent_lru.specs.Cache.{Idle, Held, ready, idle_at, held_at}
-use Rattle.concurrent_lru.specs.NodeTable.{Entry, NodeTable, entry_of, value_in, value_of, GetsNode}
+use Rattle.concurrent_lru.specs.NodeTable.{Entry, NodeTable, entry_of, GetsNode}
 use Rattle.concurrent_lru.specs.Representation.{as_idle, held_entry, held_in, idle_in, idle_at_place}
-use Rattle.concurrent_lru.specs.Entries.{ContainsPlace, ContainsIdleAt, ContainsHeldAt, ContainsFoundAt, GetsAt, GetsNodeAt, IsReadyAt, ContainsNoStamp, cache_of, pins_at, value_at}
+use Rattle.concurrent_lru.specs.Entries.{ContainsPlace, ContainsIdleAt, ContainsHeldAt, ContainsFoundAt, GetsAt, GetsNodeAt, IsReadyAt, ContainsNoStamp, cache_of, pins_at}
 use Rattle.concurrent_lru.specs.declared.node_table.Node.{Node}
 use Rattle.concurrent_lru.specs.declared.table.stamp_index.StampIndex.{StampIndex}
 use Rattle.concurrent_lru.specs.Indexes.{IsStored, entries_of}
@@ -160,27 +160,9 @@ module _ {K V : Type 0} {C : K → K → Type 0} {E : K → K → Bool} {H : K �
     | false ↦ λ b. pins_by p e.stamp (Some (held_entry e)) (place_at p e at) (held_found p e at b)
   ] refl
 
-  -- the value at a place, by what is held under its stamp, and what is idle
-  value_by : (p s : ℕ) (o : Option (Held K V)) → get (entries_of t).stamps p ≡ Some s → get (entries_of t).held s ≡ o → value_at (entries_of t) p ≡ option_map_or (λ h. value_in h.phase) o (option_map (λ x. x.value) (idle_at (cache_of (entries_of t)) s))
-  value_by p s o at held =
-      ap (λ n. option_map_or (λ i. option_map_or (λ h. value_in h.phase) (get (entries_of t).held i) (option_map (λ x. x.value) (idle_at (cache_of (entries_of t)) i))) n None) at
-      ∙ ap (λ n. option_map_or (λ h. value_in h.phase) n (option_map (λ x. x.value) (idle_at (cache_of (entries_of t)) s))) held
-
-  -- it is its node's
-  pub node_value : (p : ℕ) (e : Entry K V) → get t.nodes p ≡ Some e → value_at (entries_of t) p ≡ value_of e
-  node_value p e at = elim (e.pins == 0) as (λ b. (e.pins == 0) ≡ b → value_at (entries_of t) p ≡ value_of e) [
-    | true ↦ λ b.
-        let none : e.pins ≡ 0 = eqb-true e.pins 0 b in
-        let m = r.represents.resting p e at none in
-        let l = idle_like p e at m in
-        value_by p e.stamp None (place_at p e at) (idle_unheld p e at m)
-        ∙ ap (option_map (λ x. x.value)) ((idle_found p e at m).1 ∙ as_idle-ready e l.0 l.2) ∙ sym (ap value_in l.2)
-    | false ↦ λ b. value_by p e.stamp (Some (held_entry e)) (place_at p e at) (held_found p e at b)
-  ] refl
-
   -- a node is that of the entry at its place
   pub node_got : (p : ℕ) (n : Node K V) → GetsNode t p n → GetsNodeAt (entries_of t) p n
-  node_got p n got = record { entry = node_is_at p (entry_of n) got.entry; pins = node_pins p (entry_of n) got.entry; value = node_value p (entry_of n) got.entry; alone = got.alone }
+  node_got p n got = record { entry = node_is_at p (entry_of n) got.entry; pins = node_pins p (entry_of n) got.entry; alone = got.alone }
 
   -- the stamp of a place is its node's
   pub same_stamp : (p s : ℕ) (e : Entry K V) → get (entries_of t).stamps p ≡ Some s → get t.nodes p ≡ Some e → s ≡ e.stamp

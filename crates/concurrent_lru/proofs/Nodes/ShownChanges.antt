@@ -5,23 +5,23 @@ use Rattle.std.specs.FinMap.{FinMap, get}
 use Rattle.std.specs.Ordering.{nat_cmp}
 use Rattle.concurrent_lru.specs.Cells.{cell_at}
 use Rattle.concurrent_lru.specs.Listing.{KeepsListings, IsNodeIn, spare_of}
-use Rattle.concurrent_lru.specs.NodeTable.{NodeTable, Entry, entry_of, chain_of, update_at, GetsNode}
+use Rattle.concurrent_lru.specs.NodeTable.{NodeTable, Entry, entry_of, hash_of, chain_of, update_at, GetsNode}
 use Rattle.concurrent_lru.specs.SlotPointers.{cells_of, IsNodeAt}
 use Rattle.concurrent_lru.specs.SlotTable.{IsEnd, IsWellLinked, IsWhole, hashes_of, idle_of, node_table_of, nodes_of}
 use Rattle.concurrent_lru.specs.SlotWrites.{OnlyLooksAndWrites, Rewrites}
 use Rattle.concurrent_lru.specs.declared.node_table.Node.{Node}
 use Rattle.concurrent_lru.specs.declared.node_table.links.Order.{Order}
 use Rattle.concurrent_lru.specs.declared.node_table.slots.Slots.{Slots}
-use Rattle.concurrent_lru.proofs.Nodes.SlotViews.{present, entry_there, nodes_written, hashes_written, listings_written, idle_written, table_written, hashes_same, spare_kept, spare_same, whole_kept}
+use Rattle.concurrent_lru.proofs.Nodes.SlotViews.{present, entry_there, hash_there, nodes_written, hashes_written, listings_written, idle_written, table_written, hashes_same, spare_kept, spare_same, whole_kept}
 use Rattle.concurrent_lru.proofs.Order.Appending.{some_cell}
 
 module _ {K V : Type 0} where
   -- the node n is in the slot k of the place p
-  pub shown_node : (o : Order K V) (w : ℕ) {v : NodeTable K V} {k p : ℕ} (n : Node K V) → node_table_of o w ≡ v → k ≡ p → IsSome (get v.nodes p) → IsWellLinked o → IsNodeAt o.slots k n → record { entry : get v.nodes p ≡ Some (entry_of n); alone : chain_of n ≡ [] }
+  pub shown_node : (o : Order K V) (w : ℕ) {v : NodeTable K V} {k p : ℕ} (n : Node K V) → node_table_of o w ≡ v → k ≡ p → IsSome (get v.nodes p) → IsWellLinked o → IsNodeAt o.slots k n → record { entry : get v.nodes p ≡ Some (entry_of n); hash : get v.hashes p ≡ Some (hash_of n); alone : chain_of n ≡ [] }
   shown_node o w {v} {k} {p} n e is has linked found =
       let there = some_cell (cell_at (cells_of o.slots) k) (present o w v e k p is has) in
       let same : n ≡ there.0.value = found there.0 there.1 in
-      record { entry = entry_there o w v e k p there.0 is there.1 ∙ ap (λ m. Some (entry_of m)) (sym same); alone = ap chain_of same ∙ subst IsEnd there.1 (linked.ends k) }
+      record { entry = entry_there o w v e k p there.0 is there.1 ∙ ap (λ m. Some (entry_of m)) (sym same); hash = hash_there o w v e k p there.0 is there.1 ∙ ap (λ m. Some (hash_of m)) (sym same); alone = ap chain_of same ∙ subst IsEnd there.1 (linked.ends k) }
 
   -- a node in its slot is at its place
   pub shown_found : (o : Order K V) (w k : ℕ) {v : NodeTable K V} (n : Node K V) → node_table_of o w ≡ v → IsWellLinked o → IsNodeIn o.slots k n → GetsNode v k n

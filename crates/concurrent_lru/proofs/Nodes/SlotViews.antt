@@ -14,7 +14,7 @@ use Rattle.concurrent_lru.specs.Cells.{cell_at, ptr_in, slot_at, AtFirst}
 use Rattle.concurrent_lru.specs.SlotPointers.{IsTied, ptr_of, place_in, cells_of, HasNode, LeadsTo, KeepsOthers}
 use Rattle.concurrent_lru.specs.Order.{Link, link, first_or, last_or, Absent, Linked, IsOrder}
 use Rattle.concurrent_lru.specs.Slots.{map_of_slots}
-use Rattle.concurrent_lru.specs.NodeTable.{NodeTable, Entry, entry_of}
+use Rattle.concurrent_lru.specs.NodeTable.{NodeTable, Entry, entry_of, hash_of}
 use Rattle.concurrent_lru.specs.Relinks.{NodeCell, NodeCells, slot_in, before_in, after_in, before_at, after_at}
 use Rattle.concurrent_lru.specs.SlotTable.{IsWhole, link_of, link_at, entry_in, entry_at, idle_places, idle_of, nodes_of, node_table_of, IsGood, AreGood, IsEnd, IsWellLinked, Lists}
 use Rattle.concurrent_lru.specs.SlotWrites.{OnlyWrites, OnlyLooksAndWrites, Rewrites, RewritesLink}
@@ -48,6 +48,9 @@ module _ {K V : Type 0} where
   node_is : (o : Order K V) (w : ℕ) (k : ℕ) → fin.get (node_table_of o w).nodes k ≡ entry_at o k
   node_is o w k = map_of_slots_at (map entry_in (cells_of o.slots)) k ∙ get_or-map_option entry_in refl (cells_of o.slots) k
 
+  hash_is : (o : Order K V) (w : ℕ) (k : ℕ) → fin.get (node_table_of o w).hashes k ≡ hash_in (cell_at (cells_of o.slots) k)
+  hash_is o w k = map_of_slots_at (map hash_in (cells_of o.slots)) k ∙ get_or-map_option hash_in refl (cells_of o.slots) k
+
   module _ (o : Order K V) (w : ℕ) (v : NodeTable K V) (e : node_table_of o w ≡ v) where
     pub node_had : (k p : ℕ) → k ≡ p → fin.get v.nodes p ≡ entry_at o k
     node_had k p f = (λ i. fin.get (sym e i).nodes (sym f i)) ∙ node_is o w k
@@ -61,6 +64,9 @@ module _ {K V : Type 0} where
 
     pub entry_there : (k p : ℕ) (n : NodeCell K V) → k ≡ p → cell_at (cells_of o.slots) k ≡ Some n → fin.get v.nodes p ≡ Some (entry_of n.value)
     entry_there k p n f h = node_had k p f ∙ ap entry_in h
+
+    pub hash_there : (k p : ℕ) (n : NodeCell K V) → k ≡ p → cell_at (cells_of o.slots) k ≡ Some n → fin.get v.hashes p ≡ Some (hash_of n.value)
+    hash_there k p n f h = (λ i. fin.get (sym e i).hashes (sym f i)) ∙ hash_is o w k ∙ ap hash_in h
 
     -- whether the slot is in the order
     pub idle_there : (b : Bool) (k p : ℕ) → k ≡ p → list_any (eqb p) v.idle ≡ b → list_any (eqb k) (idle_of o) ≡ b

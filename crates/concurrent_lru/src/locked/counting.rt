@@ -14,9 +14,9 @@ pub(super) fn count_look<T>(counts: &mut Counts, found: &Result<Option<T>, Refus
     ensures { counts.new ≡ counted_look found.now counts.old }
 {
     match found {
-        Ok(Some(_)) => counts.hit(),
-        Ok(None) => counts.miss(),
-        Err(_) => counts.refuse(),
+        Ok(Some(_)) => counts.hits = counts.hits.saturating_add(1),
+        Ok(None) => counts.misses = counts.misses.saturating_add(1),
+        Err(_) => counts.refusals = counts.refusals.saturating_add(1),
     }
 }
 

@@ -238,6 +238,7 @@ impl<K: Hash + Eq + Clone, V, F: Fit<K, V>> HeldPin<K, V, F> {
     /// Returns `Memory` if it is refused.
     pub fn share(&self) -> Result<Arc<V>, Refusal>
         ensures value { IfOk result (λ a. arc_value a ≡ self.now.value) }
+        ensures fits { IfOk result (λ a. F.fits self.now.key (arc_value a)) }
         ensures refusal { IfErr result (λ e. e ≡ Refusal.Memory) }
     {
         Ok(Arc::try_clone(&self.value)?)

@@ -56,8 +56,7 @@ where
         ensures yes { IsTrue result → HasReadyKey K.eq self.now.cache key.now }
         ensures no { IsFalse result → IsUnready K.eq self.now.cache key.now }
     {
-        let hash = self.table.hash_of(key);
-        let Some(found) = self.table.find_key(hash, key) else {
+        let Ok(found) = self.table.find_key(key) else {
             return false;
         };
         let Phase::Ready(_) = &found.node.phase else {

@@ -14,7 +14,7 @@ ghost use Rattle.concurrent_lru.specs.Steps.{IsAbsent};
 
 use crate::lru_core::{Evicted, Failed, Inserted, Refusal, State};
 use crate::node_table::{Found, Node, Phase};
-use crate::share::{Sharing, Stored, Stores};
+use crate::share::{Sharing, Stored};
 use crate::step::Begun;
 use crate::table::{Hint, KeyHash, Spot};
 use std::hash::Hash;
@@ -39,16 +39,16 @@ where
     {
         // A proved program does not run this. One that `rt try` runs stops here at a charge of 0.
         prove!(charge > 0);
-        let hash = self.table.hash_of(key);
-        let Some(found) = self.table.find_key(hash, key) else {
-            return self.make(hash, key, charge);
+        let found = match self.table.find_key(key) {
+            Ok(found) => found,
+            Err(hash) => return self.make(hash, key, charge),
         };
         let Found { place, near, node } = found;
-        let (stamp, pins) = (node.stamp, node.pins);
+        let (stamp, pins, hash) = (node.stamp, node.pins, node.hash);
         if pins == self.most_pins {
             return Err(Refusal::Overflow);
         }
-        let hint = Hint::to(hash, place);
+        let hint = Hint { hash, place };
         match &node.phase {
             Phase::Making => {
                 self.table.set_pins(place, near, pins + 1);
@@ -59,9 +59,9 @@ where
                 self.table.set_phase(place, near, Phase::Making);
                 Ok((Begun::Make(stamp), Evicted::none(), hint))
             }
-            Phase::Ready(_) => {
-                let value = self.table.pin(place, near, pins)?;
-                let share = value.into_share();
+            Phase::Ready(value) => {
+                let share = value.share()?;
+                self.table.pin(place, near, pins);
                 Ok((Begun::Hit(stamp, share), Evicted::none(), hint))
             }
         }
@@ -119,9 +119,9 @@ where
         ensures yes { IsTrue result → IsAbsent K.eq self.now.cache key.now }
         ensures no { IsFalse result → IsAbsent K.eq self.now.cache key.now → ⊥ }
     {
-        match self.table.find_key(self.table.hash_of(key), key) {
-            Some(_) => false,
-            None => true,
+        match self.table.find_key(key) {
+            Ok(_) => false,
+            Err(_) => true,
         }
     }
 
@@ -150,7 +150,11 @@ where
         let place = self.table.add(self.alloc, stamp, hash, key, charge)?;
         self.next += 1;
         let evicted = self.table.settle(self.capacity);
-        Ok((Begun::Make(stamp), evicted, Hint::to(hash, place)))
+        let hint = Hint {
+            hash: hash.number,
+            place,
+        };
+        Ok((Begun::Make(stamp), evicted, hint))
     }
 
     /// Does what `poll` does, by spot.
@@ -173,7 +177,7 @@ where
                 self.table.set_phase(place, near, Phase::Making);
                 Ok(Begun::Make(spot.stamp))
             }
-            Phase::Ready(value) => Ok(Begun::Hit(spot.stamp, value.another()?.into_share())),
+            Phase::Ready(value) => Ok(Begun::Hit(spot.stamp, value.share()?)),
         }
     }
 
@@ -274,21 +278,22 @@ where
             (outcome_of_get_by M.seen (found_without_hint result)) self.new }
         ensures lawful { IsLawful K.eq self.new.cache }
     {
-        let hash = self.table.hash_of(key);
-        let Some(found) = self.table.find_key(hash, key) else {
+        let Ok(found) = self.table.find_key(key) else {
             return Ok(None);
         };
         let Found { place, near, node } = found;
-        let (stamp, pins) = (node.stamp, node.pins);
-        let Phase::Ready(_) = &node.phase else {
+        let (stamp, pins, hash) = (node.stamp, node.pins, node.hash);
+        let Phase::Ready(value) = &node.phase else {
             return Ok(None);
         };
         if pins == self.most_pins {
             return Err(Refusal::Overflow);
         }
-        let value = self.table.pin(place, near, pins)?;
-        let share = value.into_share();
-        Ok(Some((stamp, share, Hint::to(hash, place))))
+        // The node is found before the copy, since a processor starts no later read until an atomic
+        // instruction has completed.
+        let share = value.share()?;
+        self.table.pin(place, near, pins);
+        Ok(Some((stamp, share, Hint { hash, place })))
     }
 
     /// Does what `release` does, by spot.
@@ -360,14 +365,15 @@ where
         };
         let Found { place, near, node } = found;
         let pins = node.pins;
-        let Phase::Ready(_) = &node.phase else {
+        let Phase::Ready(value) = &node.phase else {
             return Err(Refusal::Stale);
         };
         if pins == self.most_pins {
             return Err(Refusal::Overflow);
         }
-        let stored = self.table.pin(place, near, pins)?;
-        Ok(stored.into_share())
+        let share = value.share()?;
+        self.table.pin(place, near, pins);
+        Ok(share)
     }
 
     /// Does what `insert` does, with the same refusals, and also returns a hint of the new entry.
@@ -448,23 +454,25 @@ where
         ensures lawful { IsLawful K.eq self.new.cache }
     {
         let stamp = self.next;
-        let hash = self.table.hash_of(key);
-        let Some(found) = self.table.find_key(hash, key) else {
-            let (_begun, evicted, hint) = self.make(hash, key, charge)?;
-            return Ok((Spot { stamp, hint }, Evicted::none(), evicted));
+        let found = match self.table.find_key(key) {
+            Ok(found) => found,
+            Err(hash) => {
+                let (_begun, evicted, hint) = self.make(hash, key, charge)?;
+                return Ok((Spot { stamp, hint }, Evicted::none(), evicted));
+            }
         };
         let Found { place, node, .. } = found;
-        let (pins, old_charge) = (node.pins, node.charge);
+        let (pins, old_charge, hash) = (node.pins, node.charge, node.hash);
         if pins > 0 {
             if charge > u64::MAX - self.table.total() || stamp == u64::MAX {
                 return Err(Refusal::Overflow);
             }
             let new = self
                 .table
-                .add_over_held(self.alloc, place, stamp, hash, key, charge)?;
+                .add_over_held(self.alloc, place, stamp, key, charge)?;
             self.next += 1;
             let evicted = self.table.settle(self.capacity);
-            let hint = Hint::to(hash, new);
+            let hint = Hint { hash, place: new };
             return Ok((Spot { stamp, hint }, Evicted::none(), evicted));
         }
         // An idle entry leaves with its charge.
@@ -474,10 +482,10 @@ where
         }
         let (old, new) = self
             .table
-            .add_over_idle(self.alloc, place, stamp, hash, key, charge)?;
+            .add_over_idle(self.alloc, place, stamp, key, charge)?;
         self.next += 1;
         let evicted = self.table.settle(self.capacity);
-        let hint = Hint::to(hash, new);
+        let hint = Hint { hash, place: new };
         Ok((Spot { stamp, hint }, Evicted::one(old), evicted))
     }
 

@@ -18,7 +18,7 @@ ghost use Rattle.concurrent_lru.specs.Probing.OpenTable.{mark_of as mark_for, ca
 
 use crate::linear_probing::{home_of, next_of};
 use crate::node_table::probes::{
-    Bucket, Cursor, Step, copy_all, empty_buckets, find_mark, mark_of, put, take_out,
+    Bucket, Cursor, FILLED, Step, copy_all, empty_buckets, find_mark, put, take_out,
 };
 use std::alloc::{AllocError, Global};
 use std::marker::Model;
@@ -106,7 +106,7 @@ impl<T: Copy> OpenTable<T> {
         if count == 0 {
             return Step::End;
         }
-        let mark = mark_of(hash);
+        let mark = hash | FILLED;
         let home = home_of(count, mark);
         find_mark(&self.buckets, mark, home)
     }
@@ -148,8 +148,7 @@ impl<T: Copy> OpenTable<T> {
         ensures count { count self.new ≡ count self.old + 1 }
         ensures capacity { capacity self.new ≡ capacity self.old }
     {
-        let mark = mark_of(hash);
-        put(&mut self.buckets, mark, item);
+        put(&mut self.buckets, hash | FILLED, item);
         self.len += 1;
     }
 

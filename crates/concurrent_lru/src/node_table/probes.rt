@@ -1,6 +1,6 @@
 //! Open addressing with linear probing: a search for a mark visits one bucket after another, from
 //! the home of the mark to the first empty bucket.
-ghost use Rattle.std.specs.Prelude.{◌≡◌, ◌≢◌, ℕ, ◌+◌, ◌<◌, length, bit_or, IfOk, vec_len};
+ghost use Rattle.std.specs.Prelude.{◌≡◌, ◌≢◌, ℕ, ◌+◌, ◌<◌, length, IfOk, vec_len};
 ghost use Rattle.concurrent_lru.specs.Probing.Cycle.{next_of as next_in};
 ghost use Rattle.concurrent_lru.specs.Probing.Probes.{marks_of, mark_at, end_at, HasEmpty, IsEmptyAt, IsFilledAt, Finds, IsReached};
 ghost use Rattle.concurrent_lru.specs.Probing.Entries.{count, entry, AreApart, Has, IsSame, Adds, Removes, Holds};
@@ -57,15 +57,6 @@ pub(super) enum Step {
     Item(Cursor),
     /// The end of the walk.
     End,
-}
-
-/// Returns the mark of a hash.
-#[inline(always)]
-pub(super) fn mark_of(hash: u64) -> u64
-    ensures mark { result ≡ bit_or hash FILLED }
-    ensures filled { result ≢ 0 }
-{
-    hash | FILLED
 }
 
 /// Returns the mark in a bucket.

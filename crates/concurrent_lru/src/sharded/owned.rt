@@ -66,10 +66,7 @@ impl<
         ensures key { result.key ≡ pin.key }
         ensures charge { result.charge ≡ pin.charge }
         ensures value { result.value ≡ pin.value }
-        ensures fits { F.fits pin.key pin.value }
     {
-        // The pin's type states that the value fits.
-        let _ = pin.value();
         OwnedHandle { shard, pin }
     }
 

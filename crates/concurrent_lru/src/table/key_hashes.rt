@@ -3,7 +3,7 @@ ghost use Rattle.std.specs.Prelude.{◌≡◌};
 ghost use Rattle.concurrent_lru.specs.KeyHashes.{key_hash, IsHashOf};
 
 use crate::table::word_hasher::WordHasher;
-use std::hash::{BuildHasher, Hash, Hasher};
+use std::hash::{BuildHasher, FoldHasher, Hash, Hasher};
 
 /// The hash of a key under a seed.
 ///
@@ -11,7 +11,7 @@ use std::hash::{BuildHasher, Hash, Hasher};
 /// uses it only if it was made with the table's seed, so the hash of another table does no harm.
 #[derive(Clone, Copy)]
 pub struct KeyHash {
-    pub(super) number: u64,
+    pub(crate) number: u64,
     seed: u64,
 }
 
@@ -26,7 +26,9 @@ impl KeyHash {
         ensures hash { IsHashOf K.hash_input result key.now }
         ensures seed { result.seed ≡ seed }
     {
-        let mut hasher = WordHasher::new();
+        let mut hasher = WordHasher {
+            inner: FoldHasher::default(),
+        };
         hasher.write_u64(seed);
         key.hash(&mut hasher);
         KeyHash {

@@ -1,6 +1,5 @@
 //! An entry's stamp with a hint of where it is.
 use crate::node_table::Place;
-use crate::table::key_hashes::KeyHash;
 
 /// Where a lookup of an entry begins: among the entries with this hash, and then at this place.
 ///
@@ -16,15 +15,6 @@ pub struct Hint {
 }
 
 impl Hint {
-    // Returns a hint that leads to the entry at a place, whose key has this hash.
-    #[inline(always)]
-    pub(crate) fn to(hash: KeyHash, place: Place) -> Hint {
-        Hint {
-            hash: hash.number,
-            place,
-        }
-    }
-
     // Returns some hint, which may lead to no entry.
     pub(crate) fn first() -> Hint {
         Hint {

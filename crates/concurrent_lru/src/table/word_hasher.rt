@@ -9,22 +9,8 @@ use std::hash::{FoldHasher, Hasher};
 /// A hasher whose hashes depend on what it is fed first.
 #[derive(Clone, Copy)]
 pub struct WordHasher {
-    inner: FoldHasher,
-}
-
-impl WordHasher {
-    ghost use Rattle.std.specs.Prelude.{◌≡◌};
-    ghost use Rattle.concurrent_lru.specs.WordHashes.{initial};
-
-    /// Creates a hasher that has been fed nothing.
-    #[inline(always)]
-    pub fn new() -> WordHasher
-        ensures { result ≡ initial }
-    {
-        WordHasher {
-            inner: FoldHasher::default(),
-        }
-    }
+    // The hasher that it feeds. A new one has been fed nothing.
+    pub(super) inner: FoldHasher,
 }
 
 impl Hasher for WordHasher {

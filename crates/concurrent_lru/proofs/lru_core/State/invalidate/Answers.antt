@@ -10,7 +10,7 @@ use Rattle.concurrent_lru.proofs.lru_core.State.invalidate.Goals as goal
 use Rattle.concurrent_lru.proofs.lru_core.State.invalidate.Goals.{After-one, After-none-then-pins-gt0}
 
 pub returns-in_default-clause-step : goal.returns-in_default-clause-step
-returns-in_default-clause-step g c = inr (inr (subst (λ old. IsAbsent g.K.PartialEq.eq old c.args.key.now) (ap (λ x. x.cache) c.self.view_is) c.in_default.ensures.found, record { same = refl; none = c.none.ensures }))
+returns-in_default-clause-step g c = inr (inr (subst (λ old. IsAbsent g.K.PartialEq.eq old c.args.key.now) (ap (λ x. x.cache) c.self.view_is) c.in_default.ensures.absent, record { same = refl; none = c.none.ensures }))
 
 pinned : (n : ℕ) → 0 < n → n ≢ 0
 pinned n some none = omega (arith, none, some)
@@ -20,16 +20,16 @@ no_pins n h = omega arith
 
 pub detach-requires : goal.detach-requires
 detach-requires g c =
-    let here = c.in-Some.ensures.node.entry in
-    let some = pinned (entry_of c.in-Some.found.node.now).pins c.if-pins-gt0.true in
-    found_here here some (found_is here c.self.invariant.lawful c.args.key.now c.in-Some.ensures.found some)
+    let here = c.in-Ok.ensures.node.entry in
+    let some = pinned (entry_of c.in-Ok.found.node.now).pins c.if-pins-gt0.true in
+    found_here here some (found_is here c.self.invariant.lawful c.args.key.now c.in-Ok.ensures.found some)
 
 lost : (g : _) (c : After-none-then-pins-gt0 g) → Detaches g.K.PartialEq.eq (cache_with c.self.inside.capacity c.self.inside.most_pins c.self.inside.next c.self.inside.table) c.args.key.now [] (cache_with c.self.inside.capacity c.self.inside.most_pins c.self.inside.next c.detach.new.self)
 lost g c =
-    let here = c.in-Some.ensures.node.entry in
-    let some = pinned (entry_of c.in-Some.found.node.now).pins c.if-pins-gt0.true in
+    let here = c.in-Ok.ensures.node.entry in
+    let some = pinned (entry_of c.in-Ok.found.node.now).pins c.if-pins-gt0.true in
     detaches g.K.PartialEq.eq c.self.inside.capacity c.self.inside.most_pins c.self.inside.next here c.detach.new.self c.args.key.now
-    (found_is here c.self.invariant.lawful c.args.key.now c.in-Some.ensures.found some) (key_is here c.self.invariant.lawful c.args.key.now c.in-Some.ensures.found) some c.detach.ensures
+    (found_is here c.self.invariant.lawful c.args.key.now c.in-Ok.ensures.found some) (key_is here c.self.invariant.lawful c.args.key.now c.in-Ok.ensures.found) some c.detach.ensures
 
 pub invariant_of-self : goal.invariant_of-self
 invariant_of-self g c = record { lawful = detaches_lawful _ _ _ _ _ c.self.invariant.lawful (lost g c); pins_above = c.self.invariant.pins_above }
@@ -45,12 +45,12 @@ returns-then-pins-gt0-clause-lawful g c = detaches_lawful _ _ _ _ _ c.self.invar
 
 gone : (g : _) (c : After-one g) → Drops g.K.PartialEq.eq (cache_with c.self.inside.capacity c.self.inside.most_pins c.self.inside.next c.self.inside.table) c.args.key.now c.one.result (cache_with c.self.inside.capacity c.self.inside.most_pins c.self.inside.next c.evict-node.new.self)
 gone g c =
-    let here = c.in-Some.ensures.node.entry in
+    let here = c.in-Ok.ensures.node.entry in
     drops g.K.PartialEq.eq c.self.inside.capacity c.self.inside.most_pins c.self.inside.next here c.evict-node.new.self c.args.key.now (entry_of c.evict-node.result.value) c.one.result
-    (key_is here c.self.invariant.lawful c.args.key.now c.in-Some.ensures.found) (no_pins _ c.if-pins-gt0.false) c.evict-node.ensures.at c.evict-node.ensures.ready c.evict-node.ensures.entry c.evict-node.ensures.idle c.evict-node.ensures.held c.one.ensures
+    (key_is here c.self.invariant.lawful c.args.key.now c.in-Ok.ensures.found) (no_pins _ c.if-pins-gt0.false) c.evict-node.ensures.at c.evict-node.ensures.ready c.evict-node.ensures.entry c.evict-node.ensures.idle c.evict-node.ensures.held c.one.ensures
 
 pub evict-node-requires : goal.evict-node-requires
-evict-node-requires g c = idle_place c.in-Some.ensures.node.entry (no_pins _ c.if-pins-gt0.false)
+evict-node-requires g c = idle_place c.in-Ok.ensures.node.entry (no_pins _ c.if-pins-gt0.false)
 
 pub invariant_of-self-2 : goal.invariant_of-self-2
 invariant_of-self-2 g c = record { lawful = drops_lawful _ _ _ _ _ c.self.invariant.lawful (gone g c); pins_above = c.self.invariant.pins_above }

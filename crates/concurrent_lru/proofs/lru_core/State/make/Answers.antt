@@ -4,7 +4,7 @@ use Rattle.concurrent_lru.specs.Entries.{charges_of, cache_with}
 use Rattle.concurrent_lru.proofs.Steps.BeginOfAbsent.{makes_lawful}
 use Rattle.concurrent_lru.proofs.Entries.StepsOfEntries as steps
 use Rattle.concurrent_lru.proofs.lru_core.State.make.Goals as goal
-use Rattle.concurrent_lru.proofs.lru_core.State.make.Goals.{After-to}
+use Rattle.concurrent_lru.proofs.lru_core.State.make.Goals.{After-settle-evicted}
 
 pub add-requires-clause-absent : goal.add-requires-clause-absent
 add-requires-clause-absent g c = subst (λ k. IsAbsent g.K.PartialEq.eq k c.args.key.now) (sym (ap (λ x. x.cache) c.self.view_is)) c.requires.absent
@@ -15,7 +15,7 @@ add-requires-clause-fresh g c = λ k m e. let low : c.self.inside.next < c.self.
 below_end : (n : ℕ) → n < 2 ^ 64 → (n ≡ 18446744073709551615 → ⊥) → n + 1 < 2 ^ 64
 below_end n h k = omega arith
 
-makes : (g : _) (c : After-to g) → Makes g.K.PartialEq.eq (cache_with c.self.inside.capacity c.self.inside.most_pins c.self.inside.next c.self.inside.table) c.args.key.now c.args.charge c.self.inside.next c.settle-evicted.result (cache_with c.self.inside.capacity c.self.inside.most_pins (c.self.inside.next + 1) c.settle-evicted.new.self)
+makes : (g : _) (c : After-settle-evicted g) → Makes g.K.PartialEq.eq (cache_with c.self.inside.capacity c.self.inside.most_pins c.self.inside.next c.self.inside.table) c.args.key.now c.args.charge c.self.inside.next c.settle-evicted.result (cache_with c.self.inside.capacity c.self.inside.most_pins (c.self.inside.next + 1) c.settle-evicted.new.self)
 makes g c =
     let absent = subst (λ k. IsAbsent g.K.PartialEq.eq k c.args.key.now) (sym (ap (λ x. x.cache) c.self.view_is)) c.requires.absent in
     let sum_fits : charges_of c.self.inside.table < 2 ^ 64 = c.self.invariant.lawful.sum_fits in

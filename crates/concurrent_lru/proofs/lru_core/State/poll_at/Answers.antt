@@ -34,15 +34,15 @@ returns-in-Making-clause-step g c =
     let here = holds c.in-Some.ensures.node.entry c.self.inside.capacity c.self.inside.most_pins c.self.inside.next c.args.spot.now.stamp making c.in-Some.ensures.found c.if-node-eq0.false (ap phase_of c.in-Making.is) in
     (refl, changes_phase_same g.K.PartialEq.eq c.args.self.now.cache c.args.spot.now.stamp h making (subst (λ k. Holds k c.args.spot.now.stamp h making) (ap (λ x. x.cache) c.self.view_is) here))
 
-pub returns-in_ok-another-in-Ready-clause-step : goal.returns-in_ok-another-in-Ready-clause-step
-returns-in_ok-another-in-Ready-clause-step g c =
-    let v = g.M.Sharing.seen c.into_share.result in
+pub returns-in_ok-share-in-Ready-clause-step : goal.returns-in_ok-share-in-Ready-clause-step
+returns-in_ok-share-in-Ready-clause-step g c =
+    let v = g.M.Sharing.seen c.in_ok-share-in-Ready.field-0 in
     let h = held_entry (entry_of c.in-Some.found.node.now) in
-    let here = holds c.in-Some.ensures.node.entry c.self.inside.capacity c.self.inside.most_pins c.self.inside.next c.args.spot.now.stamp (ready v) c.in-Some.ensures.found c.if-node-eq0.false (ap phase_of c.in-Ready.is ∙ ap ready (sym (c.into_share.ensures ∙ c.in_ok-another-in-Ready.ensures))) in
+    let here = holds c.in-Some.ensures.node.entry c.self.inside.capacity c.self.inside.most_pins c.self.inside.next c.args.spot.now.stamp (ready v) c.in-Some.ensures.found c.if-node-eq0.false (ap phase_of c.in-Ready.is ∙ ap ready (sym c.in_ok-share-in-Ready.ensures)) in
     (refl, changes_phase_same g.K.PartialEq.eq c.args.self.now.cache c.args.spot.now.stamp h (ready v) (subst (λ k. Holds k c.args.spot.now.stamp h (ready v)) (ap (λ x. x.cache) c.self.view_is) here))
 
-pub returns-in_err-another-in-Ready-clause-step : goal.returns-in_err-another-in-Ready-clause-step
-returns-in_err-another-in-Ready-clause-step g c =
+pub returns-in_err-share-in-Ready-clause-step : goal.returns-in_err-share-in-Ready-clause-step
+returns-in_err-share-in-Ready-clause-step g c =
     let v = c.in-Ready.value in
     let h = held_entry (entry_of c.in-Some.found.node.now) in
     let here = holds c.in-Some.ensures.node.entry c.self.inside.capacity c.self.inside.most_pins c.self.inside.next c.args.spot.now.stamp (ready v) c.in-Some.ensures.found c.if-node-eq0.false (ap phase_of c.in-Ready.is) in

@@ -1,5 +1,5 @@
 use Rattle.std.proofs.Common.{[], refl, sym, ap, ◌∙◌, subst, inl, inr}
-use Rattle.std.proofs.lemmas.Bool.{not-false}
+use Rattle.std.proofs.lemmas.Bool.{not-false, not-true}
 use Rattle.concurrent_lru.specs.Cache.{making, ready, held_at}
 use Rattle.concurrent_lru.specs.Entries.{ContainsEntry, cache_with}
 use Rattle.concurrent_lru.specs.NodeTable.{entry_of, phase_of}
@@ -8,7 +8,7 @@ use Rattle.concurrent_lru.proofs.Entries.EntryAtPlace.{stamp_is, has_entry, held
 use Rattle.concurrent_lru.proofs.Entries.StepsOfEntries.{changes_phase}
 use Rattle.concurrent_lru.proofs.Steps.NotReady.{unready_not_ready}
 use Rattle.concurrent_lru.proofs.Steps.ReadyAndPoll.{phase_making, changes_phase_lawful, stored_seen}
-use Rattle.concurrent_lru.proofs.Steps.ReadyValues.{equal_key_at}
+use Rattle.concurrent_lru.proofs.Steps.ReadyValues.{equal_key_at, other_key_at}
 use Rattle.concurrent_lru.proofs.lru_core.State.ready_keyed.Goals as goal
 use Rattle.concurrent_lru.proofs.lru_core.State.ready_keyed.Goals.{After-set_phase}
 
@@ -20,6 +20,12 @@ returns-in_default-clause-quiet g c = λ _ h at. absurd (c.in_default.ensures.fo
 
 pub returns-in_default-phase-clause-step : goal.returns-in_default-phase-clause-step
 returns-in_default-phase-clause-step g c = λ _. (not_in_phase c.in-Some.ensures.node.entry c.self.invariant.lawful making (ap (λ x. x.cache) c.self.view_is) c.args.spot.now.stamp c.in-Some.ensures.found (λ e. c.in_default-phase.not-Making (phase_making _ e)), refl)
+
+pub returns-then-ne-clause-step : goal.returns-then-ne-clause-step
+returns-then-ne-clause-step g c = λ own.
+    let node = entry_of c.in-Some.found.node.now in
+    let at = subst (λ s. ContainsEntry c.self.inside.table s node.key node.charge) (stamp_is c.in-Some.ensures.node.entry c.args.spot.now.stamp c.in-Some.ensures.found) (has_entry c.in-Some.ensures.node.entry) in
+    absurd (other_key_at g.K.PartialEq.eq (cache_with c.self.inside.capacity c.self.inside.most_pins c.self.inside.next c.self.inside.table) c.args.self.now.cache c.args.spot.now.stamp node.key c.args.key.now (ap (λ x. x.cache) c.self.view_is) c.self.invariant.lawful (node.charge, at) (not-true _ (sym c.if-ne.ensures)) own)
 
 pub set_phase-requires : goal.set_phase-requires
 set_phase-requires g c = let here = c.in-Some.ensures.node.entry in held_place here (unready_pinned here (unready_not_ready _ (inl (ap phase_of c.in-Making.is))))

@@ -15,7 +15,7 @@ look_near-pointer-requires-clause-present g c = present c.self.inside.order c.se
 -- the node was looked up, and its pins removed
 rested : (g : _) (c : After-set_pins g) → IsWritten c.self.inside.order (record c.self.inside.order { slots = with_node c.look_near-pointer.new.self c.look_near-pointer.result c.set_pins.new.self }) c.place.inside.slot c.look_near-pointer.result (entry_with_pins 0)
 rested g c =
-    written c.self.inside.order c.look_near-pointer.new.self (with_node c.look_near-pointer.new.self c.look_near-pointer.result c.set_pins.new.self) (entry_with_pins 0) (λ e. refl) c.self.invariant.linked c.look_near-pointer.ensures.rest c.look_near-pointer.ensures.tied c.look_near-pointer.ensures.link refl (revalued (cells_of c.look_near-pointer.new.self) c.look_near-pointer.result c.follow_mut.result.now c.set_pins.new.self c.follow_mut.ensures.value (entry_with_pins 0) c.set_pins.ensures)
+    written c.self.inside.order c.look_near-pointer.new.self (with_node c.look_near-pointer.new.self c.look_near-pointer.result c.set_pins.new.self) (entry_with_pins 0) (λ e. refl) c.self.invariant.linked c.look_near-pointer.ensures.rest c.look_near-pointer.ensures.tied c.look_near-pointer.ensures.link refl (revalued (cells_of c.look_near-pointer.new.self) c.look_near-pointer.result c.follow_mut-node.result.now c.set_pins.new.self c.follow_mut-node.ensures.value (entry_with_pins 0) c.set_pins.ensures)
 
 pub push-requires : goal.push-requires
 push-requires g c =
@@ -30,7 +30,7 @@ returns g c =
     (then_writes o.slots u q.slots (looked_and_wrote o.slots t u c.look_near-pointer.ensures.rest refl) c.push.ensures.rest) (then_keeps (cells_of o.slots) (cells_of u) (cells_of q.slots) w.listings c.push.ensures.listings)
     (ap (λ k. k.count) c.push.ensures.looks ∙ c.look_near-pointer.ensures.looks) c.tick.ensures in
     let had = node_had o c.self.inside.work.count c.args.self.now c.self.view_is c.place.inside.slot c.args.place c.place.view_is in
-    record { nodes = shown.nodes; hashes = shown.hashes; idle = shown.idle; charge = λ e h. ap (λ x. x.charge) (looked_entry o t c.look_near-pointer.result c.place.inside.slot c.look_near-pointer.ensures.rest c.look_near-pointer.ensures.link c.follow.ensures e (sym had ∙ h)); spare = shown.spare; work = shown.work; looks = shown.looks }
+    record { nodes = shown.nodes; hashes = shown.hashes; idle = shown.idle; charge = λ e h. ap (λ x. x.charge) (looked_entry o t c.look_near-pointer.result c.place.inside.slot c.look_near-pointer.ensures.rest c.look_near-pointer.ensures.link c.follow_mut-node.ensures.value e (sym had ∙ h)); spare = shown.spare; work = shown.work; looks = shown.looks }
 
 pub invariant_of-self : goal.invariant_of-self
 invariant_of-self g c =

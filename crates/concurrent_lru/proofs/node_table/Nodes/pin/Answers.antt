@@ -1,15 +1,11 @@
 use Rattle.std.proofs.Common.{◌≡◌, ◌≤◌, ◌+◌, ℕ, Some, true, filter, not, eqb, refl, sym, ap, ◌∙◌, arith, subst}
 use Rattle.std.specs.List.{list_any}
-use Rattle.std.specs.Prelude.{IsSome}
-use Rattle.concurrent_lru.specs.Cells.{cell_at, slot_at}
-use Rattle.concurrent_lru.specs.NodeTable.{NodeTable, entry_of, value_of, update_at, entry_with_pins}
+use Rattle.concurrent_lru.specs.NodeTable.{NodeTable, entry_of, update_at, entry_with_pins}
 use Rattle.concurrent_lru.specs.SlotPointers.{cells_of, with_node}
-use Rattle.concurrent_lru.specs.SlotTable.{entry_at, entry_in}
-use Rattle.concurrent_lru.proofs.Memory.CellSlots.{value_at_slot}
-use Rattle.concurrent_lru.proofs.Nodes.Listings.{looked_keeps, then_keeps}
-use Rattle.concurrent_lru.proofs.Nodes.NodeWrites.{revalued, looked_and_wrote, only_looked, then_writes}
+use Rattle.concurrent_lru.specs.SlotTable.{entry_at}
+use Rattle.concurrent_lru.proofs.Nodes.Listings.{then_keeps}
+use Rattle.concurrent_lru.proofs.Nodes.NodeWrites.{revalued, looked_and_wrote, then_writes}
 use Rattle.concurrent_lru.proofs.Nodes.SlotViews.{IsWritten, present, idle_there, node_had, hashes_same, whole_kept, written, looked_entry}
-use Rattle.concurrent_lru.proofs.Order.Appending.{table_looked}
 use Rattle.concurrent_lru.proofs.node_table.Nodes.pin.Goals as goal
 use Rattle.concurrent_lru.proofs.node_table.Nodes.pin.Goals.{After-set_pins}
 
@@ -19,43 +15,24 @@ no_pins n few = omega arith
 pub look_near-pointer-requires-clause-present : goal.look_near-pointer-requires-clause-present
 look_near-pointer-requires-clause-present g c = present c.self.inside.order c.self.inside.work.count c.args.self.now c.self.view_is c.place.inside.slot c.args.place c.place.view_is c.requires.within
 
-pub share_value-requires : goal.share_value-requires
-share_value-requires g c =
-    let same = ap cells_of c.look_near-pointer.ensures.rest in
-    let at = ap (λ l. slot_at l c.look_near-pointer.result) same ∙ c.look_near-pointer.ensures.link in
-    let there = value_at_slot (cells_of c.look_near-pointer.new.self) c.look_near-pointer.result c.place.inside.slot at in
-    let was = ap (λ l. entry_in (cell_at l c.place.inside.slot)) (sym same) ∙ ap entry_in there.1 in
-    subst (λ n. IsSome (value_of (entry_of n))) (sym (c.follow-node.ensures c.place.inside.slot there.0 at there.1)) (c.requires.ready (entry_of there.0.value) (node_had c.self.inside.order c.self.inside.work.count c.args.self.now c.self.view_is c.place.inside.slot c.args.place c.place.view_is ∙ was))
-
--- the node was looked up, and nothing else changed
-pub invariant_of-self : goal.invariant_of-self
-invariant_of-self g c =
-    let o = c.self.inside.order in let t = c.look_near-pointer.new.self in (
-      refl,
-      tt,
-      whole_kept o (record o { slots = t }) c.self.invariant (table_looked o t c.look_near-pointer.ensures.rest c.look_near-pointer.ensures.tied c.self.invariant.linked) (only_looked o.slots t c.look_near-pointer.ensures.rest)
-          (looked_keeps o.slots t (cells_of t) c.look_near-pointer.ensures.rest (λ k. (refl, refl))),
-    )
-
 -- the node was looked up, and given a pin
 pinned : (g : _) (c : After-set_pins g) → IsWritten c.self.inside.order (record c.self.inside.order { slots = with_node c.look_near-pointer.new.self c.look_near-pointer.result c.set_pins.new.self }) c.place.inside.slot c.look_near-pointer.result (entry_with_pins (c.args.pins + 1))
 pinned g c =
     written c.self.inside.order c.look_near-pointer.new.self (with_node c.look_near-pointer.new.self c.look_near-pointer.result c.set_pins.new.self) (entry_with_pins (c.args.pins + 1)) (λ e. refl) c.self.invariant.linked c.look_near-pointer.ensures.rest c.look_near-pointer.ensures.tied c.look_near-pointer.ensures.link refl
-    (revalued (cells_of c.look_near-pointer.new.self) c.look_near-pointer.result c.follow_mut.result.now c.set_pins.new.self c.follow_mut.ensures.value (entry_with_pins (c.args.pins + 1)) c.set_pins.ensures)
+    (revalued (cells_of c.look_near-pointer.new.self) c.look_near-pointer.result c.follow_mut-node.result.now c.set_pins.new.self c.follow_mut-node.ensures.value (entry_with_pins (c.args.pins + 1)) c.set_pins.ensures)
 
 -- the entry of the node that was looked up
-was : (g : _) (c : After-set_pins g) (e : _) → entry_at c.self.inside.order c.place.inside.slot ≡ Some e → entry_of c.follow-node.result.now ≡ e
-was g c = looked_entry c.self.inside.order c.look_near-pointer.new.self c.look_near-pointer.result c.place.inside.slot c.look_near-pointer.ensures.rest c.look_near-pointer.ensures.link c.follow-node.ensures
+was : (g : _) (c : After-set_pins g) (e : _) → entry_at c.self.inside.order c.place.inside.slot ≡ Some e → entry_of c.follow_mut-node.result.now ≡ e
+was g c = looked_entry c.self.inside.order c.look_near-pointer.new.self c.look_near-pointer.result c.place.inside.slot c.look_near-pointer.ensures.rest c.look_near-pointer.ensures.link c.follow_mut-node.ensures.value
 
-pub invariant_of-self-then-pins-gt0 : goal.invariant_of-self-then-pins-gt0
-invariant_of-self-then-pins-gt0 g c =
-    let o = c.self.inside.order in let t = c.look_near-pointer.new.self in let u = with_node c.look_near-pointer.new.self c.look_near-pointer.result c.set_pins.new.self in let w = pinned g (goal.at.invariant_of-self-then-pins-gt0 g c).After-set_pins in
+pub invariant_of-self : goal.invariant_of-self
+invariant_of-self g c =
+    let o = c.self.inside.order in let t = c.look_near-pointer.new.self in let u = with_node c.look_near-pointer.new.self c.look_near-pointer.result c.set_pins.new.self in let w = pinned g (goal.at.invariant_of-self g c).After-set_pins in
     (refl, tt, whole_kept o (record o { slots = u }) c.self.invariant w.linked (looked_and_wrote o.slots t u c.look_near-pointer.ensures.rest refl) w.listings)
 
-pub returns-then-pins-gt0-clause-value : goal.returns-then-pins-gt0-clause-value
-returns-then-pins-gt0-clause-value g c e h =
-    let same = was g (goal.at.returns-then-pins-gt0-clause-value g c).After-set_pins e (sym (node_had c.self.inside.order c.self.inside.work.count c.args.self.now c.self.view_is c.place.inside.slot c.args.place c.place.view_is) ∙ h) in
-    (ap value_of (sym same) ∙ c.in_ok-value.ensures.value, ap (λ x. x.charge) same)
+pub returns-then-pins-gt0-clause-charge : goal.returns-then-pins-gt0-clause-charge
+returns-then-pins-gt0-clause-charge g c e h =
+    ap (λ x. x.charge) (was g (goal.at.returns-then-pins-gt0-clause-charge g c).After-set_pins e (sym (node_had c.self.inside.order c.self.inside.work.count c.args.self.now c.self.view_is c.place.inside.slot c.args.place c.place.view_is) ∙ h))
 
 pub returns-then-pins-gt0-clause-nodes : goal.returns-then-pins-gt0-clause-nodes
 returns-then-pins-gt0-clause-nodes g c = (pinned g (goal.at.returns-then-pins-gt0-clause-nodes g c).After-set_pins).nodes ∙ (λ j. update_at (entry_with_pins (c.args.pins + 1)) (c.self.view_is j).nodes (c.place.view_is j))
@@ -79,10 +56,9 @@ invariant_of-self-2 g c =
     let o = c.self.inside.order in let t = c.look_near-pointer.new.self in let u = with_node c.look_near-pointer.new.self c.look_near-pointer.result c.set_pins.new.self in let q = c.cut.new.self in let w = pinned g (goal.at.invariant_of-self-2 g c).After-set_pins in
     (refl, tt, whole_kept o q c.self.invariant c.cut.ensures.linked (then_writes o.slots u q.slots (looked_and_wrote o.slots t u c.look_near-pointer.ensures.rest refl) c.cut.ensures.rest) (then_keeps (cells_of o.slots) (cells_of u) (cells_of q.slots) w.listings c.cut.ensures.listings))
 
-pub returns-clause-value : goal.returns-clause-value
-returns-clause-value g c e h =
-    let same = was g (goal.at.returns-clause-value g c).After-set_pins e (sym (node_had c.self.inside.order c.self.inside.work.count c.args.self.now c.self.view_is c.place.inside.slot c.args.place c.place.view_is) ∙ h) in
-    (ap value_of (sym same) ∙ c.in_ok-value.ensures.value, ap (λ x. x.charge) same)
+pub returns-clause-charge : goal.returns-clause-charge
+returns-clause-charge g c e h =
+    ap (λ x. x.charge) (was g (goal.at.returns-clause-charge g c).After-set_pins e (sym (node_had c.self.inside.order c.self.inside.work.count c.args.self.now c.self.view_is c.place.inside.slot c.args.place c.place.view_is) ∙ h))
 
 pub returns-clause-nodes : goal.returns-clause-nodes
 returns-clause-nodes g c = c.cut.ensures.nodes ∙ (pinned g (goal.at.returns-clause-nodes g c).After-set_pins).nodes ∙ (λ j. update_at (entry_with_pins (c.args.pins + 1)) (c.self.view_is j).nodes (c.place.view_is j))

@@ -6,7 +6,7 @@ use Rattle.concurrent_lru.specs.NodeTable.{entry_of, new_entry}
 use Rattle.concurrent_lru.specs.Entries.{AddsOverIdle, ContainsIdleAt, ContainsNoStamp, GetsAt, charges_of}
 use Rattle.concurrent_lru.specs.Indexes.{entries_of}
 use Rattle.concurrent_lru.specs.KeyHashes.{key_hash}
-use Rattle.concurrent_lru.proofs.Entries.HashesOfNodes.{alike_hashes}
+use Rattle.concurrent_lru.proofs.Entries.HashesOfNodes.{alike_hashes, hash_alike}
 use Rattle.concurrent_lru.proofs.Lists.DistinctNumbers.{list_any-filter_self}
 use Rattle.concurrent_lru.proofs.Lists.Members.{IsIn}
 use Rattle.concurrent_lru.proofs.Entries.FoundNodes.{fresh_among}
@@ -17,6 +17,9 @@ use Rattle.concurrent_lru.proofs.Entries.ChargesOfIdle.{kept_bound}
 use Rattle.concurrent_lru.proofs.Entries.SoundTables.{adds_new, fresh_entry, grown, idle_counted, idle_taken, with_new, without_idle}
 use Rattle.concurrent_lru.proofs.table.Table.add_over_idle.Goals as goal
 use Rattle.concurrent_lru.proofs.table.Table.add_over_idle.Goals.{After-make_room, After-take_away-old, After-put-new}
+
+pub node-requires : goal.node-requires
+node-requires g c = let h = subst (λ t. ContainsIdleAt t c.args.place) (sym c.self.view_is) c.requires.idle in has_node c.self.invariant.stored c.args.place (h.0, h.1)
 
 pub invariant_of-self : goal.invariant_of-self
 invariant_of-self g c = (grown c.self.inside.nodes c.make_room.new.nodes c.self.inside.by_stamp c.make_room.new.by_stamp c.self.invariant c.self.view_is c.make_room.ensures).sound
@@ -75,7 +78,9 @@ added : (g : _) (c : After-put-new g) → IsAdded (key_hash c.self.inside.seed g
 added g c =
     let room = grown c.self.inside.nodes c.make_room.new.nodes c.self.inside.by_stamp c.make_room.new.by_stamp c.self.invariant c.self.view_is c.make_room.ensures in
     let took = idle_taken c.make_room.new.nodes c.remove.new.self c.take_away-old.new.nodes c.make_room.new.by_stamp c.take_away-old.new.by_stamp c.args.place (entry_of c.take_away-old.result.value) c.remove.ensures c.take_away-old.ensures in
-    put_added (alike_hashes c.self.inside.seed g.K.Hash.hash_input g.met.K.Hash.respects_eq) (stored_without room.sound.stored took) c.in_ok-node.ensures.own c.in_ok-node.ensures.entry (c.in_ok-node.ensures.hash ∙ c.under-hash.ensures) (fresh_taken c.make_room.new.nodes c.take_away-old.new.nodes c.args.place c.args.stamp took.nodes (fresh_among room.sound.stored c.args.stamp (subst (λ t. ContainsNoStamp t c.args.stamp) (sym room.same) c.requires.fresh))) c.put-new.ensures
+    let e = entry_of c.node.result.now in
+    let here = subst (λ t. GetsAt t c.args.place e) c.self.view_is (node_is_at c.self.invariant.stored c.args.place e c.node.ensures.entry) in
+    put_added (alike_hashes c.self.inside.seed g.K.Hash.hash_input g.met.K.Hash.respects_eq) (stored_without room.sound.stored took) c.in_ok-node.ensures.own c.in_ok-node.ensures.entry (c.in_ok-node.ensures.hash ∙ (hash_alike _ _ (alike_hashes c.self.inside.seed g.K.Hash.hash_input g.met.K.Hash.respects_eq) c.self.invariant.stored.hashed c.args.place _ e c.args.key.now c.node.ensures.entry c.node.ensures.hash (c.requires.keyed e here))) (fresh_taken c.make_room.new.nodes c.take_away-old.new.nodes c.args.place c.args.stamp took.nodes (fresh_among room.sound.stored c.args.stamp (subst (λ t. ContainsNoStamp t c.args.stamp) (sym room.same) c.requires.fresh))) c.put-new.ensures
 
 pub invariant_of-self-2 : goal.invariant_of-self-2
 invariant_of-self-2 g c =

@@ -1,9 +1,8 @@
-use Rattle.std.specs.FinMap.{get}
-use Rattle.std.proofs.Common.{sym, ap, ◌∙◌, subst}
-use Rattle.concurrent_lru.specs.Entries.{ContainsIdleAt, value_at}
+use Rattle.std.proofs.Common.{sym, ◌∙◌, subst}
+use Rattle.concurrent_lru.specs.Entries.{ContainsIdleAt}
 use Rattle.concurrent_lru.specs.Indexes.{entries_of}
 use Rattle.concurrent_lru.specs.Reads.{RenewsAt}
-use Rattle.concurrent_lru.proofs.Entries.NodeAtPlace.{some_node, idle_node, node_value}
+use Rattle.concurrent_lru.proofs.Entries.NodeAtPlace.{some_node, idle_node}
 use Rattle.concurrent_lru.proofs.Entries.Renew.{Renews, stored_renewed, entries_renewed, rests_renewed, sum_renewed}
 use Rattle.concurrent_lru.proofs.table.Table.renew.Goals as goal
 use Rattle.concurrent_lru.proofs.table.Table.renew.Goals.{After-renew}
@@ -24,10 +23,5 @@ invariant_of-self g c = record {
   rests = c.self.invariant.rests ∙ sym (rests_renewed c.self.invariant.stored (moved g c).1);
 }
 
-pub returns-clause-entry : goal.returns-clause-entry
-returns-clause-entry g c = subst (λ t. RenewsAt t c.args.place (entries_of c.renew.new.self)) c.self.view_is (entries_renewed c.self.invariant.stored (moved g c).1)
-
-pub returns-clause-value : goal.returns-clause-value
-returns-clause-value g c =
-    let m = moved g c in
-    node_value (stored_renewed c.self.invariant.stored m.1) c.args.place m.0 (ap (λ n. get n c.args.place) m.1.nodes ∙ m.1.at) ∙ sym (node_value c.self.invariant.stored c.args.place m.0 m.1.at) ∙ ap (λ t. value_at t c.args.place) c.self.view_is
+pub returns : goal.returns
+returns g c = subst (λ t. RenewsAt t c.args.place (entries_of c.renew.new.self)) c.self.view_is (entries_renewed c.self.invariant.stored (moved g c).1)

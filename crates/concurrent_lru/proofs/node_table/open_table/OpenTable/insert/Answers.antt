@@ -3,8 +3,12 @@ use Rattle.std.proofs.Common.{◌+◌, ◌/◌, ◌∙◌, length, drop, sym, ap
 use Rattle.std.proofs.lemmas.List.{take_at}
 use Rattle.concurrent_lru.specs.Probing.Entries.{Has, Adds, entry, count}
 use Rattle.concurrent_lru.specs.Probing.OpenTable.{mark_of, IsTable, capacity}
+use Rattle.concurrent_lru.proofs.Probing.Marks.{mark_filled}
 use Rattle.concurrent_lru.proofs.Probing.Tables.Changes.{room_in, reached_in, apart_in, table_more}
 use Rattle.concurrent_lru.proofs.node_table.open_table.OpenTable.insert.Goals as goal
+
+pub put-requires-clause-filled : goal.put-requires-clause-filled
+put-requires-clause-filled g c = mark_filled c.args.hash
 
 pub put-requires-clause-room : goal.put-requires-clause-room
 put-requires-clause-room g c = room_in c.args.self.now c.deref_mut.result.now (c.deref_mut.ensures.value ∙ c.self.view_is) c.requires.room
@@ -28,7 +32,7 @@ pub returns-clause-adds : goal.returns-clause-adds
 returns-clause-adds g c =
     let after = take_at c.put.new.buckets (drop (length c.put.new.buckets) c.self.inside.buckets.items) c.self.inside.buckets.len (c.put.auto.buckets ∙ c.deref_mut.ensures.len) in
     subst (λ l. Adds c.args.self.now l (entry (mark_of c.args.hash) c.args.item)) (sym after)
-    (subst (λ l. Adds l c.put.new.buckets (entry (mark_of c.args.hash) c.args.item)) (c.deref_mut.ensures.value ∙ c.self.view_is) (subst (λ m. Adds c.deref_mut.result.now c.put.new.buckets (entry m c.args.item)) c.mark_of-mark.ensures.mark c.put.ensures.adds))
+    (subst (λ l. Adds l c.put.new.buckets (entry (mark_of c.args.hash) c.args.item)) (c.deref_mut.ensures.value ∙ c.self.view_is) c.put.ensures.adds)
 
 pub returns-clause-count : goal.returns-clause-count
 returns-clause-count g c =
