@@ -1,5 +1,8 @@
 mod Pasts
-mod Claims
-mod DistinctKeys
+mod ApartMakings
 mod Words
 mod Seating
+mod FirstBits
+mod BitLaws
+mod Evicting
+mod EvictionLaws

@@ -87,13 +87,6 @@ module _ {K V : Type 0} where
       let none : turns p pre.0 ≡ 0 = omega (arith, turns-append p xs pre.0, ap (turns p) pre.1, count) in
       sym (unchanged p (entry_at p xs) pre.0 none) ∙ (sym (entry_after-append p None xs pre.0) ∙ ap (entry_at p) pre.1)
 
-  same_by : (p : ℕ) (xs ys : List (Event K V)) → IsPrefix xs ys ⊎ IsPrefix ys xs → turns p xs ≡ turns p ys → entry_at p xs ≡ entry_at p ys
-  same_by p xs ys (inl pre) count = longer_same p xs ys pre count
-  same_by p xs ys (inr pre) count = sym (longer_same p ys xs pre (sym count))
-
-  pub same_entry : (p : ℕ) (xs ys zs : List (Event K V)) → IsPrefix xs zs → IsPrefix ys zs → turns p xs ≡ turns p ys → entry_at p xs ≡ entry_at p ys
-  same_entry p xs ys zs one other count = same_by p xs ys (prefix_either xs ys zs one other) count
-
   -- a slot that has an event in a prefix has one in the whole
   pub still_begun : (p : ℕ) (xs ys : List (Event K V)) → IsPrefix xs ys → 0 < turns p xs → 0 < turns p ys
   still_begun p xs ys pre some = omega (arith, turns-append p xs pre.0, ap (turns p) pre.1, some)
@@ -312,14 +305,6 @@ module _ {K V : Type 0} where
         came = whole;
         there = sym (longer_same w.key (at.before ++ came ∷ []) seen whole (sym all)) ∙ comes w.key at.before came refl;
       }
-
-  -- two arrivals at one slot with one number are of one entry
-  pub arrives_once : (w : Named) (a b : Arrival K V) (e d : Entry K V) (zs : List (Event K V)) → IsPrefix a.log.log zs → IsPrefix b.log.log zs → a.number ≡ b.number → Arrives w a e → Arrives w b d → e ≡ d
-  arrives_once w a b e d zs one other same at to =
-      let first : entry_at w.key a.log.log ≡ Some e = ap (entry_at w.key) at.last ∙ comes w.key at.before (event w.key at.skipped (Some e)) refl in
-      let second : entry_at w.key b.log.log ≡ Some d = ap (entry_at w.key) to.last ∙ comes w.key to.before (event w.key to.skipped (Some d)) refl in
-      let both : entry_at w.key a.log.log ≡ entry_at w.key b.log.log = same_entry w.key a.log.log b.log.log zs one other (at.count ∙ (same ∙ sym to.count)) in
-      cc (sym first ∙ (both ∙ second))
 
 -- a property of each item of a list still holds if an item that has it is added
 pub each_push : {A : Type 0} (P : A → Type 0) (xs : List A) (y : A) → EachOf P xs → P y → EachOf P (xs ++ y ∷ [])

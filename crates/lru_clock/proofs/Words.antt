@@ -2,4 +2,5 @@
 pub mod HolderKnowsWords
 pub mod Cells
 pub mod Walks
+pub mod Holes
 pub mod Homes

@@ -1,7 +1,14 @@
 -- The definitions that the contracts of the clock use.
 pub mod Index
+pub mod Bits
+pub mod Ghosts
+pub mod Orders
+pub mod Looks
+pub mod Evictions
 pub mod Pins
 pub mod Turns
+pub mod Makings
+pub mod Begun
 pub mod Seats
 pub mod SeatStates
 pub mod SeatChanges

@@ -1,7 +1,8 @@
 -- What a change of the index does to the seats.
-use Rattle.std.specs.Prelude.{◌≡◌, ℕ, ◌+◌, ◌-◌, ◌<◌, ◌^◌, true, false, List, Some, slice_get, sum_by, MatchOption}
+use Rattle.std.specs.Prelude.{◌≡◌, ℕ, ◌+◌, ◌-◌, ◌<◌, ◌^◌, true, false, List, None, Some, slice_get, sum_by, MatchOption}
 use Rattle.std.proofs.Math.ListN.{set}
-use Rattle.lru_clock.specs.Seats.{Seat, listed_as}
+use Rattle.lru_clock.specs.Evictions.{charge_at}
+use Rattle.lru_clock.specs.Seats.{Seat, seat, listed_as}
 
 module _ {K : Type 0} where
   -- an entry of this charge may be put at a place: the place has a seat, the index has no entry
@@ -19,3 +20,17 @@ module _ {K : Type 0} where
   -- the index does not have the entry of a place from now on, if there is such a place
   abbrev pub UnlistsAt : List (Seat K) → ℕ → List (Seat K) → Type 0
   UnlistsAt old p new = MatchOption (slice_get old p) (new ≡ old) (λ s. new ≡ set old p (listed_as false s))
+
+  -- a place has a seat and no entry
+  abbrev pub IsVacant : List (Seat K) → ℕ → Type 0
+  IsVacant seats p = slice_get seats p ≡ Some (seat 0 0 None)
+
+  -- no charge changed
+  pub record KeepsCharges (old new : List (Seat K)) : Type 0 where
+    pub total : sum_by (λ s. s.charge) new ≡ sum_by (λ s. s.charge) old
+    pub each : (p : ℕ) → charge_at new p ≡ charge_at old p
+
+  -- an entry of this charge is at a place, and the total has grown by it
+  pub record Charges (charge p : ℕ) (old new : List (Seat K)) : Type 0 where
+    pub here : charge_at new p ≡ charge
+    pub total : sum_by (λ s. s.charge) new ≡ sum_by (λ s. s.charge) old + charge

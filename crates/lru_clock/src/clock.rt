@@ -59,7 +59,7 @@ impl<K: Hash + Eq + Clone, V, R: Wait, S: BuildHasher, F: Fit<K, V>> Model
 
     ghost view = { λ c. record {
       hasher = c.hasher;
-      books = map (λ s. s.store.chronicle.first.book) c.shards.items;
+      books = map (λ s. s.core.store.chronicle.first.book) c.shards.items;
     } };
 }
 
@@ -185,7 +185,7 @@ impl<K: Hash + Eq + Clone + Drop, V: Drop, R: Wait, S: BuildHasher, F: Fit<K, V>
     #[inline(always)]
     fn route(&self, key: &K) -> (&Shard<K, V, F>, u32)
         ensures book { IsBookOf S.BuildHasher S.Hasher.Hasher K.hash_input self.now key.now
-            result.0.now.store.chronicle.first.book }
+            result.0.now.core.store.chronicle.first.book }
     {
         choose_shard(&self.hasher, &self.shards, key)
     }
@@ -395,7 +395,8 @@ impl<K: Hash + Eq + Clone + Drop, V: Drop, R: Wait, S: BuildHasher, F: Fit<K, V>
     ///
     /// Returns `Overflow` if the charge would take the shard's total, with the old entry still
     /// counted, past `u64::MAX`, and `Memory` if a copy of the key or a slot is refused. Then the
-    /// value is dropped, and the key's entry stays.
+    /// value is dropped, and the key's entry stays, unless more than that entry had to be evicted
+    /// and other callers took the room meanwhile.
     pub fn insert(
         &self,
         key: &K,

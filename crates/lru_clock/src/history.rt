@@ -12,7 +12,6 @@
 ghost use Rattle.std.specs.Prelude.{◌≡◌, ◌+◌, ◌<◌, ◌≤◌, ◌++◌, ◌∷◌, [], List, true};
 ghost use Rattle.std.specs.Prelude.{IfSome, IsTrue};
 ghost use mathlib.Core.List.{IsPrefix};
-ghost use Rattle.logbook.specs.Pages.{Named};
 ghost use Rattle.crossbeam_utils.specs.Padded.{padded_value};
 ghost use Rattle.lru_clock.specs.History.{turns, entry, named, HasCome};
 ghost use Rattle.lru_clock.specs.Arrivals.{Arrives};
@@ -277,16 +276,6 @@ pub struct Arrival<K, V> {
 }
 
 impl<K, V> Arrival<K, V> {
-    /// Returns a copy.
-    pub(crate) fn again(&self) -> Self
-        ensures { result ≡ self.now }
-    {
-        Arrival {
-            number: self.number,
-            log: self.log.again(),
-        }
-    }
-
     /// With a past, does what `Past::find` does. Without one, reads nothing, and returns the
     /// history up to this arrival.
     #[inline(always)]
@@ -308,18 +297,6 @@ impl<K, V> Arrival<K, V> {
             Some(past) => past.find(track, self),
             None => Some(self.log.again()),
         }
-    }
-
-    /// Returns whether two arrivals at one slot are of the same entry.
-    pub(crate) fn is(&self, other: &Self) -> bool
-        requires { self.now.log.book ≡ other.now.log.book }
-        ensures { IsTrue result → (w : Named) (e d : Entry_ K V)
-            → Arrives w self.now e → Arrives w other.now d → e ≡ d }
-    {
-        // Has no effect at run time: it proves that both are prefixes of one history.
-        let mut both = self.log.again();
-        both.learn(&other.log);
-        self.number == other.number
     }
 }
 

@@ -1,35 +1,69 @@
 //! The keys whose values are being made, under the lock of a shard.
-ghost use Rattle.std.specs.Prelude.{◌≡◌, ◌++◌, [], ◌∷◌, false, MatchResult};
+ghost use Rattle.std.specs.Prelude.{◌≡◌, ◌≢◌, [], false, IfErr, IfOk, MatchBool, MatchOption};
 ghost use Rattle.std.specs.List.{list_any};
+ghost use Rattle.lru_clock.specs.Makings.{has_number, is_numbered, is_of, Ends, IsAt, IsWith, Marks};
 
+use concurrent_lru::sharded::Refusal;
 use std::alloc::{AllocError, Global};
 use std::marker::Model;
 
-// A key whose value is being made, and a ticket that no other making has had.
-#[derive(Drop)]
-struct Making<K> {
-    key: K,
-    ticket: u64,
+/// A debt: a value that its caller makes. `Makings::end` takes it, whether the value was made or
+/// not. No other making has its number.
+pub struct Ticket {
+    number: u64,
 }
 
-/// The keys whose values are being made, each by one caller, and the number of callers that wait
-/// for any of them. Clauses see the list of the keys, no two of which are equal.
+impl Ticket {
+    /// Returns the number of the making, which `Makings::end_number` takes in place of the ticket.
+    pub(crate) fn into_number(self) -> u64
+        ensures { result ≡ self.number }
+    {
+        let Ticket { number } = self;
+        number
+    }
+}
+
+/// A key whose value is being made.
+#[derive(Drop)]
+pub struct Making<K> {
+    key: K,
+    // That of the ticket.
+    number: u64,
+    // Whether later callers make another value.
+    is_invalidated: bool,
+}
+
+/// How a making ended.
+#[derive(Drop)]
+pub enum Ended<K> {
+    /// Its value is the one for the key.
+    Current(K),
+    /// The key was invalidated meanwhile: its value is for its maker alone.
+    Invalidated(K),
+    /// There is no such making.
+    Unknown,
+}
+
+/// The values that are being made, each by one caller, and the number of callers that wait for any
+/// of them. Clauses see the list of the makings, the oldest first. No two of them have the same
+/// number, and no two that are not invalidated have equal keys.
 #[derive(Drop)]
 pub struct Makings<K: Eq> {
     makings: Vec<Making<K>>,
-    next_ticket: u64,
+    next_number: u64,
     waiting: u64,
 }
 
 impl<K: Eq> Model for Makings<K> {
-    ghost use Rattle.std.specs.Prelude.{List, map};
-    ghost use Rattle.std.specs.List.{IsDistinct};
+    ghost use Rattle.std.specs.Prelude.{List};
+    ghost use Rattle.lru_clock.specs.Makings.{AreApart};
+    ghost use Rattle.lru_clock.specs.declared.makings.Making.{Making};
 
-    ghost Value = { List K };
+    ghost Value = { List (Making K) };
 
-    ghost view = { λ m. map (λ making. making.key) m.makings.items };
+    ghost view = { λ m. m.makings.items };
 
-    ghost invariant = { λ m. IsDistinct K.eq (map (λ making. making.key) m.makings.items) };
+    ghost invariant = { λ m. AreApart K.eq m.next_number m.makings.items };
 }
 
 impl<K: Eq + Drop> Makings<K> {
@@ -39,59 +73,111 @@ impl<K: Eq + Drop> Makings<K> {
     {
         Makings {
             makings: Vec::new(alloc),
-            next_ticket: 0,
+            next_number: 0,
             waiting: 0,
         }
     }
 
-    /// Returns whether the key's value is being made.
-    pub fn contains(&self, key: &K) -> bool
-        ensures { result ≡ list_any (λ made. K.eq made key.now) self.now }
+    /// Returns whether no value is being made.
+    pub fn is_empty(&self) -> bool
+        ensures { MatchBool result (self.now ≡ []) (self.now ≢ []) }
     {
-        for making in &self.makings {
-            if making.key == *key {
-                return true;
-            }
-        }
-        false
+        self.makings.is_empty()
+    }
+
+    /// Returns whether the key's value is being made, and later callers are to wait for it.
+    pub fn contains(&self, key: &K) -> bool
+        ensures { result ≡ list_any (is_of K.eq key.now) self.now }
+    {
+        self.find(key).is_some()
     }
 
     /// Begins the making of a key's value, which nobody is making, and returns its ticket.
     ///
-    /// Returns `AllocError` if the allocator refuses.
-    pub fn begin(&mut self, key: K) -> Result<u64, AllocError>
-        requires absent { list_any (λ made. K.eq made key) self.now ≡ false }
-        ensures { MatchResult result (λ _. self.new ≡ self.old ++ (key ∷ []))
-            (λ _. self.new ≡ self.old) }
+    /// Returns `Memory` if the allocator refuses, and `Overflow` after `u64::MAX` makings.
+    pub fn begin(&mut self, key: K) -> Result<Ticket, Refusal>
+        requires absent { list_any (is_of K.eq key) self.now ≡ false }
+        ensures made { IfOk result (λ ticket. IsWith self.old key ticket.number self.new) }
+        ensures refused { IfErr result (λ e. (self.new ≡ self.old) × (e ≢ Refusal.Stale)) }
     {
-        let ticket = self.next_ticket;
-        self.makings.push(Making { key, ticket })?;
-        self.next_ticket = ticket.wrapping_add(1);
-        Ok(ticket)
-    }
-
-    /// Ends a making, and returns its key unless the key was invalidated meanwhile.
-    pub fn end(&mut self, ticket: u64) -> Option<K> {
-        let at = self
-            .makings
-            .iter()
-            .position(|making| making.ticket == ticket)?;
-        self.remove(at)
-    }
-
-    /// Invalidates the making of a key's value: later callers make another value. Returns the key
-    /// of the making.
-    pub fn invalidate(&mut self, key: &K) -> Option<K> {
-        let at = self.makings.iter().position(|making| making.key == *key)?;
-        self.remove(at)
-    }
-
-    fn remove(&mut self, at: usize) -> Option<K> {
-        if at >= self.makings.len() {
-            return None;
+        let number = self.next_number;
+        let Some(next_number) = number.checked_add(1) else {
+            return Err(Refusal::Overflow);
+        };
+        let made = self.makings.push(Making {
+            key,
+            number,
+            is_invalidated: false,
+        });
+        if let Err(failed) = made {
+            return Err(AllocError::from(failed).into());
         }
-        let Making { key, ticket: _ } = self.makings.remove(at);
-        Some(key)
+        self.next_number = next_number;
+        Ok(Ticket { number })
+    }
+
+    /// Ends a making.
+    pub fn end(&mut self, ticket: Ticket) -> Ended<K>
+        ensures { Ends ticket.number self.old result self.new }
+    {
+        self.end_number(ticket.into_number())
+    }
+
+    /// `end`, for a caller that cannot keep a ticket and may pass any number: it may end a making
+    /// of another caller, or none.
+    pub(crate) fn end_number(&mut self, number: u64) -> Ended<K>
+        ensures { Ends number self.old result self.new }
+    {
+        let Some(at) = self.find_number(number) else {
+            return Ended::Unknown;
+        };
+        let Making {
+            key,
+            number: _,
+            is_invalidated,
+        } = self.makings.remove(at);
+        if is_invalidated {
+            Ended::Invalidated(key)
+        } else {
+            Ended::Current(key)
+        }
+    }
+
+    /// Invalidates the making of a key's value: later callers make another value.
+    pub fn invalidate(&mut self, key: &K)
+        ensures marks { Marks K.eq key.now self.old self.new }
+        ensures gone { list_any (is_of K.eq key.now) self.new ≡ false }
+    {
+        if let Some(at) = self.find(key) {
+            self.makings[at].is_invalidated = true;
+        }
+    }
+
+    // Returns where the making of a key's value is that was not invalidated.
+    fn find(&self, key: &K) -> Option<usize>
+        ensures { MatchOption result (list_any (is_of K.eq key.now) self.now ≡ false)
+            (λ at. IsAt (is_of K.eq key.now) self.now at) }
+    {
+        for at in 0..self.makings.len() {
+            let making = &self.makings[at];
+            if !making.is_invalidated && making.key == *key {
+                return Some(at);
+            }
+        }
+        None
+    }
+
+    // Returns where the making with a number is.
+    fn find_number(&self, number: u64) -> Option<usize>
+        ensures { MatchOption result (has_number number self.now ≡ false)
+            (λ at. IsAt (is_numbered number) self.now at) }
+    {
+        for at in 0..self.makings.len() {
+            if self.makings[at].number == number {
+                return Some(at);
+            }
+        }
+        None
     }
 
     /// Another caller waits.

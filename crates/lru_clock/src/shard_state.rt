@@ -1,8 +1,14 @@
 //! The state that the lock of a shard protects.
-ghost use Rattle.std.specs.Prelude.{◌≡◌, sum_by};
+ghost use Rattle.std.specs.Prelude.{◌≡◌, [], sum_by, cond, IfOk, Some, None};
+ghost use Rattle.lru_clock.specs.Evictions.{arrived, passed, charge_at, tag_at, is_above};
+ghost use Rattle.lru_clock.specs.Orders.{left};
+ghost use Rattle.std.proofs.Math.ListN.{set};
+ghost use Rattle.lru_clock.specs.Seats.{seat};
 
 use crate::makings::Makings;
-use crate::store::Seats;
+use crate::order::Order;
+use crate::store::{Left, Seats, Taken};
+use concurrent_lru::fit::Fit;
 use std::alloc::{AllocError, Global};
 use std::fmt;
 
@@ -57,21 +63,22 @@ pub struct ShardState<K: Eq> {
     pub seats: Seats<K>,
     pub makings: Makings<K>,
     pub counts: Counts,
-    // The place that the hand of the clock passes next.
-    hand: u32,
+    pub order: Order,
 }
 
 impl<K: Eq + Drop> ShardState<K> {
     /// Creates the state of a shard without entries.
     ///
     /// Returns `AllocError` if the allocator refuses.
-    pub fn new(alloc: Global, capacity: u64) -> Result<Self, AllocError> {
+    pub fn new(alloc: Global, capacity: u64) -> Result<Self, AllocError>
+        ensures { IfOk result (λ state. (state.capacity ≡ capacity) × (state.seats ≡ [])) }
+    {
         Ok(ShardState {
             capacity,
             seats: Seats::new(alloc)?,
             makings: Makings::new(alloc),
             counts: Counts::default(),
-            hand: 0,
+            order: Order::new(alloc, capacity),
         })
     }
 
@@ -92,22 +99,64 @@ impl<K: Eq + Drop> ShardState<K> {
     /// Returns whether another charge would take the total above the capacity, so that entries must
     /// be evicted. If the total would not fit a `u64`, nothing is evicted: the charge will be
     /// refused.
-    pub fn is_above(&self, charge: u64) -> bool {
+    pub fn is_above(&self, charge: u64) -> bool
+        ensures { result ≡ is_above self.now.capacity self.now.seats charge }
+    {
         match self.seats.total().checked_add(charge) {
             Some(total) => total > self.capacity,
             None => false,
         }
     }
 
-    /// Moves the hand of the clock to the next place, and returns the place that it was at.
-    pub fn move_hand(&mut self) -> u32 {
-        let place = self.hand;
-        let next = place.wrapping_add(1);
-        self.hand = if (next as usize) < self.seats.len() {
-            next
+    /// Vacates the seat of an entry that was taken out of its slot, and counts an eviction. The
+    /// entry has a ghost only if the hands evicted it and the index had it.
+    pub(crate) fn vacate<'a, V: Drop, F: Fit<K, V>>(
+        &mut self,
+        taken: Taken<'a, K, V, F>,
+        is_evicted: bool,
+    ) -> Left<'a, K, V, F>
+        ensures book { result ≡ Some taken.entry.claimed }
+        ensures seats { self.new.seats ≡ set self.old.seats taken.entry.place (seat 0 0 None) }
+        ensures order { self.new.order
+            ≡ left taken.entry.place (charge_at self.old.seats taken.entry.place)
+            (cond is_evicted (tag_at self.old.seats taken.entry.place) None) self.old.order }
+    {
+        let place = taken.place();
+        let tag = if is_evicted {
+            self.seats.listed_tag(place)
         } else {
-            0
+            None
         };
-        place
+        self.order.leave(place, self.seats.charge_at(place), tag);
+        self.counts.evictions = self.counts.evictions.wrapping_add(1);
+        self.seats.vacate(taken)
+    }
+
+    /// The entry at a place, which was just stored, takes its place in the order.
+    pub(crate) fn come(&mut self, place: u32)
+        ensures { self.new ≡ record self.old {
+          order = arrived self.old.seats place self.old.capacity self.old.order;
+        } }
+    {
+        let charge = self.seats.charge_at(place);
+        let tag = self.seats.listed_tag(place);
+        self.order.come(place, charge, tag, self.capacity);
+    }
+
+    /// The entry at a place has passed its trial.
+    pub(crate) fn end_trial(&mut self, place: u32)
+        ensures { self.new
+            ≡ record self.old { order = passed self.old.seats place self.old.order } }
+    {
+        self.order.end_trial(place, self.seats.charge_at(place));
+    }
+
+    /// Sets the capacity, and the border for it.
+    pub fn set_capacity(&mut self, capacity: u64)
+        ensures capacity { self.new.capacity ≡ capacity }
+        ensures seats { self.new.seats ≡ self.old.seats }
+    {
+        self.capacity = capacity;
+        self.order.set_capacity(capacity);
     }
 }

@@ -5,9 +5,13 @@
 //! large shard, can be unused yet. A new index is twice as large as the one before it. The old ones
 //! stay as they were: a reader that still has one may miss an entry, and looks again under the
 //! lock.
-ghost use Rattle.std.specs.Prelude.{◌≡◌, ◌≢◌, ◌<◌, true, IfErr, IfOk, IfSome};
+ghost use Rattle.std.specs.Prelude.{◌≡◌, ◌≢◌, ◌<◌, true, Some, None, IfErr, IfOk, IfSome};
+ghost use Rattle.std.specs.Prelude.{MatchResult, sum_by};
 ghost use Rattle.lru_clock.specs.Books.{EachOf, numbers};
+ghost use Rattle.lru_clock.specs.Looks.{LooksOnce};
+ghost use Rattle.lru_clock.specs.Orders.{IsWidened};
 
+mod looks;
 mod search;
 mod seat;
 mod seats;
@@ -15,17 +19,20 @@ mod slot;
 
 use crate::history::{Chronicle, Log, Past};
 use crate::index::Index;
+use crate::order::{Cost, Look, Looked, Order};
+pub use crate::store::looks::Looks;
 pub use crate::store::seats::{Reservation, Seats};
-pub use crate::store::slot::{Emptied, Kept, MOST_PINS, Pin, Released, Slot};
+use crate::store::slot::Claimed;
+pub use crate::store::slot::{Kept, MOST_PINS, Pin, Released, Slot, Taken};
 use boxcar::slot::{OnceSlot, SlotRule};
 use boxcar::tag::{Names, Tag};
 use concurrent_lru::fit::Fit;
-use concurrent_lru::sealed::Sealed;
 use concurrent_lru::sharded::Refusal;
 use std::alloc::{AllocError, Global};
+use std::marker::Model;
+use std::sync::Arc;
 use std::sync::atomic::AtomicU64;
 use std::sync::atomic::Ordering::SeqCst;
-use std::sync::{Arc, OnceLock};
 
 // The number of slots in each of the first eight pages.
 const FIRST_PAGE: usize = 64;
@@ -46,6 +53,15 @@ impl<K: Eq, V, F: Fit<K, V>> SlotRule<Vec<Slot<K, V, F>>> for SlotsMatchTag {
     ghost holds = { λ tag page. EachOf (λ slot. numbers slot.track.word.book ≡ tag) page.items };
 }
 
+/// The rule of an index: it may be any.
+pub struct AnyIndex;
+
+impl SlotRule<Arc<Index>> for AnyIndex {
+    ghost use Rattle.std.specs.Prelude.{⊤};
+
+    ghost holds = { λ _ _. ⊤ };
+}
+
 // A tag names a history by the numbers of its book.
 struct BookNumbers;
 
@@ -60,46 +76,116 @@ impl<K, V> Names<Log<K, V>> for BookNumbers {
 pub struct Store<K: Eq, V, F: Fit<K, V>> {
     // The number of the index in use.
     level: AtomicU64,
-    indexes: Vec<OnceLock<Arc<Index>>>,
+    // A `OnceLock` would wake those who wait for it, which no library for C may do.
+    indexes: Vec<OnceSlot<Arc<Index>, AnyIndex>>,
     pages: Vec<OnceSlot<Vec<Slot<K, V, F>>, SlotsMatchTag>>,
     pub chronicle: Chronicle<K, V>,
     ghost tags: { EachOf (λ page. page.tag ≡ numbers chronicle.first.book) pages.items },
 }
 
-/// A debt: an entry that was taken out of its slot, and whose charge still counts. `Seats::vacate`
-/// takes it. So no charge goes on counting after its entry was removed.
-pub struct Taken<K: Eq, V, F: Fit<K, V>> {
-    place: u32,
-    emptied: Emptied<K, V, F>,
-}
-
-impl<K: Eq, V, F: Fit<K, V>> Taken<K, V, F> {
-    fn of(place: u32, emptied: Option<Emptied<K, V, F>>) -> Option<Self>
-        ensures { IfSome result (λ taken. taken.place ≡ place) }
-    {
-        match emptied {
-            Some(emptied) => Some(Taken { place, emptied }),
-            None => None,
-        }
-    }
-}
-
-/// What remains of a removed entry: the entry itself, and the copy of its key that its seat had.
-#[derive(Drop)]
-pub struct Left<K: Eq, V, F: Fit<K, V>> {
-    kept: Kept<K, V, F>,
+/// A debt: an entry that was removed or refused, with the copy of its key that its seat had or
+/// would have had. `open` takes it, with the guard of the lock, so neither is dropped under the
+/// lock; or `into_parts` does, for a caller that has no guard.
+///
+/// An entry that was removed lies in its slot until another is stored there. Clauses see the book
+/// of that slot's history.
+pub struct Left<'a, K: Eq, V, F: Fit<K, V>> {
+    // The slot in which the entry lies, until it is taken out of it.
+    taken: Option<Taken<'a, K, V, F>>,
+    kept: Option<Kept<K, V, F>>,
     key_copy: Option<K>,
 }
 
-impl<K: Eq, V, F: Fit<K, V>> Left<K, V, F> {
-    fn of(emptied: Emptied<K, V, F>, key_copy: Option<K>) -> Self {
-        let Emptied { kept } = emptied;
-        Left { kept, key_copy }
-    }
+impl<'a, K: Eq, V, F: Fit<K, V>> Model for Left<'a, K, V, F> {
+    ghost use Rattle.std.specs.Prelude.{Option};
+    ghost use Rattle.core.specs.Option.{option_map};
+    ghost use Rattle.logbook.specs.Pages.{Book};
+
+    ghost Value = { Option Book };
+
+    ghost view = { λ l. option_map (λ t. t.claimed) l.taken };
 }
 
-/// The entry that was removed under the lock, if any, sealed until the lock is released.
-pub type Leaver<K, V, F> = Option<Sealed<Left<K, V, F>>>;
+impl<'a, K: Eq + Drop, V: Drop, F: Fit<K, V>> Left<'a, K, V, F> {
+    /// Returns the debt of an entry that was refused.
+    pub fn refused(kept: Kept<K, V, F>, key_copy: Option<K>) -> Self
+        ensures { result ≡ None }
+    {
+        Left {
+            taken: None,
+            kept: Some(kept),
+            key_copy,
+        }
+    }
+
+    // Returns the debt of an entry that lies in its slot.
+    fn in_slot(taken: Taken<'a, K, V, F>, key_copy: Option<K>) -> Self
+        ensures { result ≡ Some taken.entry.claimed }
+    {
+        Left {
+            taken: Some(taken),
+            kept: None,
+            key_copy,
+        }
+    }
+
+    // Takes the slot in which the entry that left lies, if the slot is at this place.
+    fn take_slot(left: &mut Option<Self>, place: u32) -> Option<Claimed<'a, K, V, F>>
+        ensures { IfSome result (λ claimed. left.old ≡ Some (Some claimed)) }
+    {
+        let Some(left) = left else {
+            return None;
+        };
+        match &left.taken {
+            Some(taken) => {
+                if taken.place != place {
+                    return None;
+                }
+            }
+            None => return None,
+        }
+        let Taken { place: _, claimed } = left.taken.take()?;
+        Some(claimed)
+    }
+
+    /// Releases the lock by dropping its guard, and then drops the entry. Frees the slot in which
+    /// the entry lies before that.
+    pub fn open<G: Drop>(self, guard: G) {
+        let (kept, key_copy) = self.take();
+        drop(guard);
+        drop(kept);
+        drop(key_copy);
+    }
+
+    /// Frees the slot in which the entry lies, and returns the key and the value. They are always
+    /// there, as an entry that leaves lies in its slot, but no clause says so.
+    pub fn into_parts(self) -> Option<(K, V)> {
+        let (kept, key_copy) = self.take();
+        drop(key_copy);
+        let Kept {
+            key,
+            value,
+            mark: _,
+        } = kept?;
+        Some((key, value))
+    }
+
+    // Takes the entry out of the slot in which it lies.
+    fn take(self) -> (Option<Kept<K, V, F>>, Option<K>) {
+        let Self {
+            taken,
+            kept,
+            key_copy,
+        } = self;
+        match taken {
+            Some(taken) => {
+                let Taken { place: _, claimed } = taken;
+                (claimed.free(), key_copy)
+            }
+            None => (kept, key_copy),
+        }
+    }
+}
 
 // Returns the page of a place, and its position in the page. Counted from 8 * FIRST_PAGE before the
 // first place, each page of 2^k slots begins at a multiple of 2^k, from 8 * 2^k to 15 * 2^k.
@@ -163,7 +249,7 @@ impl<K: Eq + Drop, V: Drop, F: Fit<K, V>> Store<K, V, F> {
     pub fn new(alloc: Global, index: Arc<Index>) -> Result<Self, AllocError> {
         let mut indexes = Vec::with_capacity(alloc, LEVELS)?;
         for _ in 0..LEVELS {
-            indexes.push(OnceLock::new())?;
+            indexes.push(OnceSlot::new(&Tag::empty()))?;
         }
         let chronicle = Chronicle::new();
         let pages = new_pages(alloc, &chronicle.first)?;
@@ -196,58 +282,90 @@ impl<K: Eq + Drop, V: Drop, F: Fit<K, V>> Store<K, V, F> {
     }
 
     /// Stores an entry in the slot whose place was reserved for it, and returns the place and a
-    /// pin. Nobody else can pin an entry that is invalidated before it is stored.
+    /// pin. Nobody else can pin an entry that is invalidated before it is stored. An entry that is
+    /// about to leave this slot leaves in the same step.
     ///
-    /// Returns the reservation and the entry if the entry cannot be stored, and no pin if it cannot
-    /// be pinned.
-    pub fn fill(
-        &self,
+    /// Returns the reservation and the entry if the entry cannot be stored.
+    pub fn fill<'a>(
+        &'a self,
         reservation: Reservation<K>,
         key: &K,
         kept: Kept<K, V, F>,
         is_invalidated: bool,
-    ) -> Result<(u32, Option<Pin<'_, K, V, F>>), (Reservation<K>, Kept<K, V, F>)>
+        left: &mut Option<Left<'a, K, V, F>>,
+    ) -> Result<(u32, Pin<'a, K, V, F>), (Reservation<K>, Kept<K, V, F>)>
         requires fits { F.fits kept.key kept.value }
+        requires asked { F.fits key.now kept.value }
         requires copy { IfSome reservation.key.value (λ copy. K.eq copy kept.key ≡ true) }
-        ensures place { IfOk result (λ filled. filled.0 ≡ reservation.place) }
-        ensures pin { IfOk result (λ filled. IfSome filled.1
-            (λ p. (p.key ≡ key.now) × F.fits key.now p.value)) }
-        ensures value { IfOk result (λ filled. IfSome filled.1 (λ p. p.value ≡ kept.value)) }
+        requires book { IfSome left.old (λ l. IfSome l (λ b. b ≡ self.now.chronicle.first.book)) }
+        ensures place { MatchResult result (λ filled. filled.0 ≡ reservation.place)
+            (λ back. back.0.place ≡ reservation.place) }
+        ensures pin { IfOk result
+            (λ filled. (filled.1.key ≡ key.now) × F.fits key.now filled.1.value) }
+        ensures value { IfOk result (λ filled. filled.1.value ≡ kept.value) }
     {
-        let Some(slot) = self.slot(reservation.place) else {
-            return Err((reservation, kept));
-        };
         // Always `Some`, since nobody else draws a number without the lock.
         let Some((number, seen)) = self.chronicle.draw() else {
             return Err((reservation, kept));
         };
-        let pin = match slot.fill(key, kept, is_invalidated, number, &seen) {
-            Ok(pin) => pin,
-            Err(kept) => return Err((reservation, kept)),
+        let place = reservation.place;
+        let claimed = match Left::take_slot(left, place) {
+            Some(claimed) => claimed,
+            None => match self.claim(place) {
+                Some(claimed) => claimed,
+                None => return Err((reservation, kept)),
+            },
         };
-        let Reservation { place, key: _ } = reservation;
-        Ok((place, pin))
+        let (stored, old) = claimed.fill(key, kept, is_invalidated, number, &seen);
+        // A slot that was free had no old entry.
+        if let (Some(left), Some(old)) = (left, old) {
+            left.kept = Some(old);
+        }
+        match stored {
+            Ok(pin) => {
+                let Reservation { place, key: _ } = reservation;
+                Ok((place, pin))
+            }
+            Err(kept) => Err((reservation, kept)),
+        }
     }
 
-    /// Lets the hand of the clock pass a place, as `Slot::pass` says.
-    pub fn pass(&self, place: u32) -> Option<Taken<K, V, F>>
-        ensures { IfSome result (λ taken. taken.place ≡ place) }
+    // Claims the slot at a place, if it is free.
+    fn claim(&self, place: u32) -> Option<Claimed<'_, K, V, F>>
+        ensures { IfSome result (λ claimed. claimed ≡ self.now.chronicle.first.book) }
     {
-        Taken::of(place, self.slot(place)?.pass())
+        self.slot(place)?.claim()
+    }
+
+    /// Looks at the entry at a place, as `Slot::look` says. A place without a slot counts as
+    /// pinned.
+    pub fn look(&self, place: u32, cost: Cost, looks: &mut Looks) -> Option<Taken<'_, K, V, F>>
+        ensures place { IfSome result (λ taken. taken.place ≡ place) }
+        ensures book { IfSome result (λ taken. taken.claimed ≡ self.now.chronicle.first.book) }
+        ensures look { LooksOnce place cost looks.old.made looks.new.made result }
+    {
+        let (found, taken) = match self.slot(place) {
+            Some(slot) => slot.look(place, cost),
+            None => (Look::Pinned, None),
+        };
+        *looks = looks.with(&Looked { place, cost, found });
+        taken
     }
 
     /// Takes out the entry at a place, whatever its chances, if nobody has pinned it.
-    pub fn take_idle(&self, place: u32) -> Option<Taken<K, V, F>>
-        ensures { IfSome result (λ taken. taken.place ≡ place) }
+    pub fn take_idle(&self, place: u32) -> Option<Taken<'_, K, V, F>>
+        ensures place { IfSome result (λ taken. taken.place ≡ place) }
+        ensures book { IfSome result (λ taken. taken.claimed ≡ self.now.chronicle.first.book) }
     {
-        Taken::of(place, self.slot(place)?.take_idle())
+        self.slot(place)?.take_idle(place)
     }
 
     /// Takes out the entry at a place if it was invalidated and nobody has pinned it.
-    pub fn take_invalidated(&self, place: u32) -> Option<Taken<K, V, F>>
-        ensures { IfSome result (λ taken. taken.place ≡ place) }
+    pub fn take_invalidated(&self, place: u32) -> Option<Taken<'_, K, V, F>>
+        ensures place { IfSome result (λ taken. taken.place ≡ place) }
+        ensures book { IfSome result (λ taken. taken.claimed ≡ self.now.chronicle.first.book) }
     {
-        Taken::of(place, self.slot(place)?.take_invalidated())
+        self.slot(place)?.take_invalidated(place)
     }
 
     /// Returns the index, for those who read it without the lock.
@@ -261,19 +379,50 @@ impl<K: Eq + Drop, V: Drop, F: Fit<K, V>> Store<K, V, F> {
     fn publish(&self, index: Arc<Index>, level: u64) {
         if let Some(cell) = self.indexes.get(level as usize) {
             // Always sets the cell: each level is published once.
-            let _ = cell.try_set(index);
+            let _ = cell.set_written(index);
             self.level.store(level, SeqCst);
         }
     }
 
-    /// Adds a slot, and a seat for it.
+    /// Adds a slot, a seat for it, and room for it in the order.
     ///
     /// Returns `Memory` if the allocator refuses, and `Overflow` if the shard has the maximum
     /// number of slots, 4,294,966,784. No entry changes.
-    pub fn grow(&self, alloc: Global, seats: &mut Seats<K>) -> Result<(), Refusal>
-        ensures { IfErr result (λ e. e ≢ Refusal.Stale) }
+    pub fn grow(
+        &self,
+        alloc: Global,
+        seats: &mut Seats<K>,
+        order: &mut Order,
+    ) -> Result<(), Refusal>
+        ensures never_stale { IfErr result (λ e. e ≢ Refusal.Stale) }
+        ensures order { IsWidened order.old order.new }
+        ensures total { sum_by (λ seat. seat.charge) seats.new
+            ≡ sum_by (λ seat. seat.charge) seats.old }
     {
         let place = seats.places();
+        self.add_page(alloc, place, seats, order)?;
+        if seats.add(place)? {
+            let index = seats.share_index()?;
+            self.publish(index, self.level.load(SeqCst).wrapping_add(1));
+        }
+        Ok(())
+    }
+
+    // Adds the page of a place if there is none, with room for its seats and in the order.
+    //
+    // Returns `Memory` and `Overflow` as `grow` does.
+    #[tactic(auto, using(crate::proofs::FirstBits::same_widened))]
+    fn add_page(
+        &self,
+        alloc: Global,
+        place: u32,
+        seats: &mut Seats<K>,
+        order: &mut Order,
+    ) -> Result<(), Refusal>
+        ensures never_stale { IfErr result (λ e. e ≢ Refusal.Stale) }
+        ensures order { IsWidened order.old order.new }
+        ensures seats { seats.new ≡ seats.old }
+    {
         let (page, _) = page_of(place);
         if page >= PAGES {
             return Err(Refusal::Overflow);
@@ -281,15 +430,17 @@ impl<K: Eq + Drop, V: Drop, F: Fit<K, V>> Store<K, V, F> {
         let Some(slots) = self.pages.get(page) else {
             return Err(Refusal::Overflow);
         };
-        if slots.get().is_none() {
-            seats.make_room(page_len(page))?;
-            // Always sets the page, since nobody else adds one without the lock.
-            let _ = slots.set_written(new_page(alloc, page, &self.chronicle)?);
+        if slots.get().is_some() {
+            return Ok(());
         }
-        if seats.add(place)? {
-            let index = seats.share_index()?;
-            self.publish(index, self.level.load(SeqCst).wrapping_add(1));
-        }
+        let len = page_len(page);
+        let Ok(places) = u32::try_from((place as usize).saturating_add(len)) else {
+            return Err(Refusal::Overflow);
+        };
+        seats.make_room(len)?;
+        order.make_room(places)?;
+        // Always sets the page, since nobody else adds one without the lock.
+        let _ = slots.set_written(new_page(alloc, page, &self.chronicle)?);
         Ok(())
     }
 }

@@ -1,5 +1,5 @@
 //! Linear probing under the lock: a word is at its home or after it, and no word in between is 0.
-ghost use Rattle.std.specs.Prelude.{◌≡◌, ◌≢◌, ℕ, ◌<◌, length, MatchOption};
+ghost use Rattle.std.specs.Prelude.{◌≡◌, ◌≢◌, ℕ, ◌<◌, length, slice_set, MatchOption};
 ghost use Rattle.concurrent_lru.specs.Probing.Cycle.{next_of as next_in};
 ghost use Rattle.concurrent_lru.specs.Probing.Probes.{mark_at, HasEmpty, IsFilledAt, IsReached};
 ghost use Rattle.concurrent_lru.specs.Probing.Gaps.{IsGap};
@@ -11,16 +11,20 @@ use concurrent_lru::linear_probing::{home_of, next_of, steps_between};
 
 impl Words {
     // Moves the word at a position back to the hole, unless it would then lie before its home.
-    // Returns the position that is the hole afterwards.
+    // Returns the position that is the hole afterwards. The word at the hole counts as 0, whatever
+    // it is.
     fn close_hole(&mut self, hole: usize, at: usize) -> usize
         requires hole { hole < length self.old }
         requires at { at < length self.old }
-        requires gap { (start : ℕ) × IsGap (length self.old) self.old start hole at }
+        requires gap { (start : ℕ)
+            × IsGap (length self.old) (slice_set self.old hole 0) start hole at }
         requires filled { IsFilledAt self.old at }
-        ensures hole { result < length self.old }
-        ensures gap { (start : ℕ) → IsGap (length self.old) self.old start hole at
-            → IsGap (length self.old) self.new start result (next_in (length self.old) at) }
-        ensures same { Rearranges self.old self.new }
+        ensures long { length self.new ≡ length self.old }
+        ensures gap { (start : ℕ)
+            → IsGap (length self.old) (slice_set self.old hole 0) start hole at
+            → IsGap (length self.old) (slice_set self.new result 0) start result
+            (next_in (length self.old) at) }
+        ensures same { Rearranges (slice_set self.old hole 0) (slice_set self.new result 0) }
     {
         let count = self.count();
         let word = self.get(at);
@@ -29,17 +33,19 @@ impl Words {
             return hole;
         }
         self.set(hole, word);
-        self.set(at, 0);
         at
     }
 
-    // Moves words back so that searches still reach all of them after a position was emptied.
-    fn close_gap(&mut self, from: usize)
-        requires from { from < length self.old }
-        requires gap { IsGap (length self.old) self.old from from
-            (next_in (length self.old) from) }
-        ensures reached { IsReached self.new }
-        ensures same { Rearranges self.old self.new }
+    // Takes out the word at a position, and moves words back so that searches still reach all of
+    // them. Each position is written once, so a reader without the lock that meets a hole which is
+    // about to be filled finds the old word there, and goes on.
+    fn take_out(&mut self, from: usize)
+        requires within { from < length self.old }
+        requires filled { IsFilledAt self.old from }
+        requires ends { HasEmpty self.old }
+        requires reached { IsReached self.old }
+        requires apart { AreOnce self.old }
+        ensures { TakesOut self.old self.new (mark_at self.old from) }
     {
         let count = self.count();
         let mut hole = from;
@@ -48,19 +54,7 @@ impl Words {
             hole = self.close_hole(hole, at);
             at = next_of(count, at);
         }
-    }
-
-    // Empties a position, and closes the gap.
-    fn take_out(&mut self, at: usize)
-        requires within { at < length self.old }
-        requires filled { IsFilledAt self.old at }
-        requires ends { HasEmpty self.old }
-        requires reached { IsReached self.old }
-        requires apart { AreOnce self.old }
-        ensures { TakesOut self.old self.new (mark_at self.old at) }
-    {
-        self.set(at, 0);
-        self.close_gap(at);
+        self.set(hole, 0);
     }
 
     // Returns the position of a word, if the index has it.

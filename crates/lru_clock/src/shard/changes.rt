@@ -2,44 +2,36 @@
 //! most once more.
 ghost use Rattle.std.specs.Prelude.{◌≡◌, ◌≢◌, ◌<◌, true, IfErr, IfOk, IfSome};
 ghost use mathlib.Core.List.{IsPrefix};
-ghost use Rattle.lru_clock.specs.Seats.{LacksKey};
 
 use crate::history::Past;
-use crate::shard::{Coming, Shard};
+use crate::makings::{Ended, Ticket};
+use crate::shard::Shard;
 use crate::shard_state::ShardState;
-use crate::store::{Kept, Leaver, Pin};
+use crate::store::{Left, Pin};
 use concurrent_lru::fit::Fit;
 use concurrent_lru::sharded::Refusal;
 use std::hash::Hash;
-use std::marker::PhantomData;
 use std::sync::{MutexGuard, Wait};
 
-// Returns the key of the making that ended, or `None` if the making was invalidated. That key
-// equals the entry's, but only this comparison proves it.
-fn checked_key<K: Eq + Drop>(making: Option<K>, key: &K) -> Option<K>
-    ensures { IfSome result (λ made. K.eq made key.now ≡ true) }
+// Returns the key of the making that ended for the index, unless the making was invalidated: then
+// the key is only to be dropped. That key equals the entry's, but only this comparison proves it.
+fn checked_key<K: Eq>(making: Ended<K>, key: &K) -> (Option<K>, Option<K>)
+    ensures { IfSome result.0 (λ made. K.eq made key.now ≡ true) }
 {
     match making {
-        Some(made) => { if made == *key { Some(made) } else { None } }
-        None => None,
+        Ended::Current(made) => {
+            if made == *key {
+                (Some(made), None)
+            } else {
+                (None, Some(made))
+            }
+        }
+        Ended::Invalidated(made) => (None, Some(made)),
+        Ended::Unknown => (None, None),
     }
 }
 
 impl<K: Hash + Eq + Clone + Drop, V: Drop, F: Fit<K, V>> Shard<K, V, F> {
-    // Returns a new entry, with a copy of the key.
-    fn new_entry(&self, key: &K, value: V) -> Result<Kept<K, V, F>, Refusal>
-        requires fits { F.fits key.now value }
-        ensures fits { IfOk result (λ kept. F.fits kept.key kept.value) }
-        ensures value { IfOk result (λ kept. kept.value ≡ value) }
-        ensures err { IfErr result (λ e. e ≡ Refusal.Memory) }
-    {
-        Ok(Kept {
-            key: key.clone()?,
-            value,
-            mark: PhantomData,
-        })
-    }
-
     /// Stores the value that was made under a ticket, ends the making, and returns a pin of the
     /// entry. If the key was invalidated meanwhile, the value is stored for this caller alone.
     ///
@@ -52,7 +44,7 @@ impl<K: Hash + Eq + Clone + Drop, V: Drop, F: Fit<K, V>> Shard<K, V, F> {
         key: &K,
         charge: u64,
         value: V,
-        ticket: u64,
+        ticket: Ticket,
     ) -> Result<(u32, Pin<'_, K, V, F>), Refusal>
         requires fits { F.fits key.now value }
         ensures pin { IfOk result
@@ -60,35 +52,38 @@ impl<K: Hash + Eq + Clone + Drop, V: Drop, F: Fit<K, V>> Shard<K, V, F> {
         ensures value { IfOk result (λ found. found.1.value ≡ value) }
         ensures never_stale { IfErr result (λ e. e ≢ Refusal.Stale) }
     {
-        let kept = match self.new_entry(key, value) {
+        let kept = match self.core.new_entry(key, value) {
             Ok(kept) => kept,
             Err(refusal) => {
                 self.fail(rt, ticket);
                 return Err(refusal);
             }
         };
-        let (mut guard, leaver) = self.lock_with_room(rt, charge);
+        let (mut guard, mut left) = self.lock_with_room(rt, charge);
         let making = guard.makings.end(ticket);
-        let coming = Coming {
-            charge,
-            tag,
-            key_copy: checked_key(making, &kept.key),
-            kept,
-        };
-        let (stored, leftover) = self.put(&mut guard, key, coming);
+        let (key_copy, unlisted) = checked_key(making, &kept.key);
+        let stored = self
+            .core
+            .put(&mut guard, tag, key, charge, kept, key_copy, &mut left);
         if stored.is_ok() {
             guard.counts.makings = guard.counts.makings.wrapping_add(1);
         } else {
             guard.counts.failures = guard.counts.failures.wrapping_add(1);
         }
         self.wake(&guard);
-        self.unlock(guard, leaver);
-        drop(leftover);
-        stored
+        self.unlock(guard, left);
+        drop(unlisted);
+        match stored {
+            Ok(found) => Ok(found),
+            Err((refusal, refused)) => {
+                refused.open(());
+                Err(refusal)
+            }
+        }
     }
 
     /// Ends a making that failed.
-    pub fn fail<R: Wait>(&self, rt: &R, ticket: u64) {
+    pub fn fail<R: Wait>(&self, rt: &R, ticket: Ticket) {
         let mut guard = self.lock(rt);
         let making = guard.makings.end(ticket);
         guard.counts.failures = guard.counts.failures.wrapping_add(1);
@@ -99,7 +94,8 @@ impl<K: Hash + Eq + Clone + Drop, V: Drop, F: Fit<K, V>> Shard<K, V, F> {
 
     /// Stores a value, replacing the key's entry, and returns a pin of the new entry.
     ///
-    /// Returns `Memory` and `Overflow` if the new entry is refused; the old one then stays.
+    /// Returns `Memory` and `Overflow` if the new entry is refused. The old one then stays, unless
+    /// it was removed before another entry was, and other callers took the room meanwhile.
     pub fn insert<R: Wait>(
         &self,
         rt: &R,
@@ -114,112 +110,86 @@ impl<K: Hash + Eq + Clone + Drop, V: Drop, F: Fit<K, V>> Shard<K, V, F> {
         ensures value { IfOk result (λ found. found.1.value ≡ value) }
         ensures never_stale { IfErr result (λ e. e ≢ Refusal.Stale) }
     {
-        let kept = self.new_entry(key, value)?;
+        let kept = self.core.new_entry(key, value)?;
         let key_copy = kept.key.clone()?;
         for _ in rt.forever() {
             let mut guard = self.lock(rt);
-            if let Err(refusal) = self.admit(&mut guard, charge) {
+            if let Err(refusal) = self.core.admit(&mut guard, charge) {
                 self.unlock(guard, None);
                 return Err(refusal);
             }
-            let leaver = self.replace(&mut guard, tag, key, charge);
-            if leaver.is_some() && guard.is_above(charge) {
-                self.unlock(guard, leaver);
+            let mut left = self.core.replace(&mut guard, tag, key, charge);
+            if left.is_some() && guard.is_above(charge) {
+                self.unlock(guard, left);
                 continue;
             }
-            let making = guard.makings.invalidate(key);
-            let coming = Coming {
-                charge,
+            guard.makings.invalidate(key);
+            let stored = self.core.put(
+                &mut guard,
                 tag,
+                key,
+                charge,
                 kept,
-                key_copy: Some(key_copy),
-            };
-            let (stored, leftover) = self.put(&mut guard, key, coming);
-            guard.counts.insertions = guard.counts.insertions.wrapping_add(1);
+                Some(key_copy),
+                &mut left,
+            );
+            if stored.is_ok() {
+                guard.counts.insertions = guard.counts.insertions.wrapping_add(1);
+            }
             self.wake(&guard);
-            self.unlock(guard, leaver);
-            drop(making);
-            drop(leftover);
-            return stored;
+            self.unlock(guard, left);
+            return match stored {
+                Ok(found) => Ok(found),
+                Err((refusal, refused)) => {
+                    refused.open(());
+                    Err(refusal)
+                }
+            };
         }
         unreachable!()
-    }
-
-    // Invalidates the key's entry. If that removes no entry, evicts one if the charge needs the
-    // room.
-    fn replace(
-        &self,
-        state: &mut ShardState<K>,
-        tag: u32,
-        key: &K,
-        charge: u64,
-    ) -> Leaver<K, V, F> {
-        match self.invalidate_entry(state, tag, key) {
-            Some(leaver) => Some(leaver),
-            None => self.make_room(state, charge),
-        }
-    }
-
-    // Invalidates the key's entry, and removes it if nobody has pinned it. The index then has no
-    // entry for the key.
-    fn invalidate_entry(&self, state: &mut ShardState<K>, tag: u32, key: &K) -> Leaver<K, V, F>
-        ensures gone { LacksKey K.eq state.new.seats tag key.now }
-    {
-        let place = state.seats.find(tag, key)?;
-        state.seats.unlist(place);
-        self.slot(place)?.mark();
-        let taken = self.store.take_invalidated(place)?;
-        Some(self.vacate(state, taken))
     }
 
     /// Invalidates the key's entry, and the making of its value.
     pub fn invalidate<R: Wait>(&self, rt: &R, tag: u32, key: &K) {
         let mut guard = self.lock(rt);
-        let leaver = self.invalidate_entry(&mut guard, tag, key);
-        self.end_invalidation(guard, key, leaver);
+        let left = self.core.invalidate_entry(&mut guard, tag, key);
+        self.end_invalidation(guard, key, left);
     }
 
     /// `invalidate`, which moves `past.since` to this call: only entries that are stored later come
     /// after it.
     pub fn invalidate_since<R: Wait>(&self, rt: &R, tag: u32, key: &K, past: &mut Past<K, V>)
-        requires book { past.old.book ≡ self.now.store.chronicle.first.book }
+        requires book { past.old.book ≡ self.now.core.store.chronicle.first.book }
         ensures book { past.new.book ≡ past.old.book }
         ensures later { IsPrefix past.old.seen past.new.since }
     {
         let mut guard = self.lock(rt);
-        let leaver = self.invalidate_entry(&mut guard, tag, key);
-        *past = self.store.chronicle.renew(past);
-        self.end_invalidation(guard, key, leaver);
+        let left = self.core.invalidate_entry(&mut guard, tag, key);
+        *past = self.core.store.chronicle.renew(past);
+        self.end_invalidation(guard, key, left);
     }
 
     // Invalidates the making of a key's value, and releases the lock.
-    fn end_invalidation(
-        &self,
-        guard: MutexGuard<'_, ShardState<K>>,
+    fn end_invalidation<'a>(
+        &'a self,
+        guard: MutexGuard<'a, ShardState<K>>,
         key: &K,
-        leaver: Leaver<K, V, F>,
+        left: Option<Left<'a, K, V, F>>,
     ) {
         let mut guard = guard;
-        let making = guard.makings.invalidate(key);
+        guard.makings.invalidate(key);
         self.wake(&guard);
-        self.unlock(guard, leaver);
-        drop(making);
+        self.unlock(guard, left);
     }
 
     /// Evicts the key's entry, whatever its chances, if nobody has pinned it.
     pub fn advise<R: Wait>(&self, rt: &R, tag: u32, key: &K) {
         let mut guard = self.lock(rt);
-        let leaver = match guard.seats.find(tag, key) {
-            Some(place) => self.take_idle(&mut guard, place),
+        let left = match guard.seats.find(tag, key) {
+            Some(place) => self.core.take_idle(&mut guard, place),
             None => None,
         };
-        self.unlock(guard, leaver);
-    }
-
-    // Evicts the entry at a place if nobody has pinned it.
-    fn take_idle(&self, state: &mut ShardState<K>, place: u32) -> Leaver<K, V, F> {
-        let taken = self.store.take_idle(place)?;
-        Some(self.vacate(state, taken))
+        self.unlock(guard, left);
     }
 
     /// Evicts every entry that nobody has pinned, whatever its chances.
@@ -227,9 +197,9 @@ impl<K: Hash + Eq + Clone + Drop, V: Drop, F: Fit<K, V>> Shard<K, V, F> {
         let mut next = 0;
         for _ in rt.forever() {
             let mut guard = self.lock(rt);
-            let leaver = self.take_next_idle(&mut guard, &mut next);
-            let is_done = leaver.is_none();
-            self.unlock(guard, leaver);
+            let left = self.core.take_next_idle(&mut guard, &mut next);
+            let is_done = left.is_none();
+            self.unlock(guard, left);
             if is_done {
                 return;
             }
@@ -237,24 +207,13 @@ impl<K: Hash + Eq + Clone + Drop, V: Drop, F: Fit<K, V>> Shard<K, V, F> {
         unreachable!()
     }
 
-    // Evicts the first entry that nobody has pinned, from the place `next` on.
-    fn take_next_idle(&self, state: &mut ShardState<K>, next: &mut u32) -> Leaver<K, V, F> {
-        for place in *next..state.seats.places() {
-            if let Some(leaver) = self.take_idle(state, place) {
-                *next = place;
-                return Some(leaver);
-            }
-        }
-        None
-    }
-
     /// Sets the capacity, and evicts down to it.
     pub fn set_capacity<R: Wait>(&self, rt: &R, capacity: u64) {
         let mut guard = self.lock(rt);
-        guard.capacity = capacity;
+        guard.set_capacity(capacity);
         self.unlock(guard, None);
-        let (guard, leaver) = self.lock_with_room(rt, 0);
-        self.unlock(guard, leaver);
+        let (guard, left) = self.lock_with_room(rt, 0);
+        self.unlock(guard, left);
     }
 
     /// Adds slots until there are as many as `entries`.
@@ -264,28 +223,16 @@ impl<K: Hash + Eq + Clone + Drop, V: Drop, F: Fit<K, V>> Shard<K, V, F> {
         ensures { IfErr result (λ e. e ≢ Refusal.Stale) }
     {
         let mut guard = self.lock(rt);
-        let grown = self.grow_to(&mut guard, entries);
+        let grown = self.core.grow_to(&mut guard, entries);
         self.unlock(guard, None);
         grown
-    }
-
-    fn grow_to(&self, state: &mut ShardState<K>, entries: usize) -> Result<(), Refusal>
-        ensures { IfErr result (λ e. e ≢ Refusal.Stale) }
-    {
-        for _ in state.seats.len()..entries {
-            self.store.grow(self.alloc, &mut state.seats)?;
-        }
-        Ok(())
     }
 
     /// Removes an invalidated entry whose last pin was released.
     #[inline(never)]
     pub fn take_invalidated<R: Wait>(&self, rt: &R, place: u32) {
         let mut guard = self.lock(rt);
-        let leaver = match self.store.take_invalidated(place) {
-            Some(taken) => Some(self.vacate(&mut guard, taken)),
-            None => None,
-        };
-        self.unlock(guard, leaver);
+        let left = self.core.take_invalidated(&mut guard, place);
+        self.unlock(guard, left);
     }
 }

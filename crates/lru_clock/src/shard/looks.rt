@@ -27,7 +27,7 @@ impl<K: Hash + Eq + Clone + Drop, V: Drop, F: Fit<K, V>> Shard<K, V, F> {
         past: &Option<Past<K, V>>,
     ) -> Result<Option<(u32, Pin<'_, K, V, F>)>, Refusal>
         requires book { IfSome past.now
-            (λ past. past.book ≡ self.now.store.chronicle.first.book) }
+            (λ past. past.book ≡ self.now.core.store.chronicle.first.book) }
         ensures pin { IfOk result (λ found. IfSome found
             (λ f. (f.1.key ≡ key.now) × F.fits key.now f.1.value)) }
         ensures since { IfSome past.now (λ past. IfOk result (λ found. IfSome found
@@ -51,14 +51,14 @@ impl<K: Hash + Eq + Clone + Drop, V: Drop, F: Fit<K, V>> Shard<K, V, F> {
         past: &Option<Past<K, V>>,
     ) -> Result<Option<(u32, Pin<'_, K, V, F>)>, Refusal>
         requires book { IfSome past.now
-            (λ past. past.book ≡ self.now.store.chronicle.first.book) }
+            (λ past. past.book ≡ self.now.core.store.chronicle.first.book) }
         ensures pin { IfOk result (λ found. IfSome found
             (λ f. (f.1.key ≡ key.now) × F.fits key.now f.1.value)) }
         ensures since { IfSome past.now (λ past. IfOk result (λ found. IfSome found
             (λ f. Sees K.eq past key.now f.1.value f.1.book f.1.log))) }
         ensures refused { IfErr result (λ e. e ≡ Refusal.Overflow) }
     {
-        let Some(index) = self.store.index() else {
+        let Some(index) = self.core.store.index() else {
             return Ok(None);
         };
         let mut probe = index.probe(tag);
@@ -66,8 +66,8 @@ impl<K: Hash + Eq + Clone + Drop, V: Drop, F: Fit<K, V>> Shard<K, V, F> {
             let Some(place) = index.next(&mut probe) else {
                 return Ok(None);
             };
-            if let Some(slot) = self.slot(place) {
-                if let Some(pin) = slot.pin(key, self.most_pins, past)? {
+            if let Some(slot) = self.core.store.slot(place) {
+                if let Some(pin) = slot.pin(key, self.core.most_pins, past)? {
                     return Ok(Some((place, pin)));
                 }
                 // The pin under which another key's entry was compared may have kept that entry
@@ -88,7 +88,7 @@ impl<K: Hash + Eq + Clone + Drop, V: Drop, F: Fit<K, V>> Shard<K, V, F> {
         past: &Option<Past<K, V>>,
     ) -> Result<Option<(u32, Pin<'_, K, V, F>)>, Refusal>
         requires book { IfSome past.now
-            (λ past. past.book ≡ self.now.store.chronicle.first.book) }
+            (λ past. past.book ≡ self.now.core.store.chronicle.first.book) }
         ensures pin { IfOk result (λ found. IfSome found
             (λ f. (f.1.key ≡ key.now) × F.fits key.now f.1.value)) }
         ensures since { IfSome past.now (λ past. IfOk result (λ found. IfSome found
@@ -96,37 +96,9 @@ impl<K: Hash + Eq + Clone + Drop, V: Drop, F: Fit<K, V>> Shard<K, V, F> {
         ensures refused { IfErr result (λ e. e ≡ Refusal.Overflow) }
     {
         let mut guard = self.lock(rt);
-        let found = self.find_listed(&mut guard, tag, key, past);
+        let found = self.core.find_listed(&mut guard, tag, key, past);
         self.unlock(guard, None);
         found
-    }
-
-    // Pins the entry that the index has for a key.
-    fn find_listed(
-        &self,
-        state: &mut ShardState<K>,
-        tag: u32,
-        key: &K,
-        past: &Option<Past<K, V>>,
-    ) -> Result<Option<(u32, Pin<'_, K, V, F>)>, Refusal>
-        requires book { IfSome past.now
-            (λ past. past.book ≡ self.now.store.chronicle.first.book) }
-        ensures pin { IfOk result (λ found. IfSome found
-            (λ f. (f.1.key ≡ key.now) × F.fits key.now f.1.value)) }
-        ensures since { IfSome past.now (λ past. IfOk result (λ found. IfSome found
-            (λ f. Sees K.eq past key.now f.1.value f.1.book f.1.log))) }
-        ensures refused { IfErr result (λ e. e ≡ Refusal.Overflow) }
-    {
-        let Some(place) = state.seats.find(tag, key) else {
-            return Ok(None);
-        };
-        let Some(slot) = self.slot(place) else {
-            return Ok(None);
-        };
-        match slot.pin(key, self.most_pins, past)? {
-            Some(pin) => Ok(Some((place, pin))),
-            None => Ok(None),
-        }
     }
 
     /// Pins the key's entry without the lock, or else does what `begin` does.
@@ -189,33 +161,18 @@ impl<K: Hash + Eq + Clone + Drop, V: Drop, F: Fit<K, V>> Shard<K, V, F> {
     {
         let mut guard = self.lock(rt);
         for _ in rt.forever() {
-            match self.find_listed(&mut guard, tag, key, &None) {
+            match self.core.find_listed(&mut guard, tag, key, &None) {
                 Ok(None) => {}
                 Ok(Some((place, pin))) => return (guard, Ok(Turn::Hit(place, pin))),
                 Err(refusal) => return (guard, Err(refusal)),
             }
-            match self.start(&mut guard, key, charge) {
+            match self.core.start(&mut guard, key, charge) {
                 Ok(Some(ticket)) => return (guard, Ok(Turn::Make(ticket))),
                 Ok(None) => guard = self.wait(rt, guard),
                 Err(refusal) => return (guard, Err(refusal)),
             }
         }
         unreachable!()
-    }
-
-    // Begins the making of a key's value, and returns its ticket. Returns `None` if another caller
-    // is making it.
-    fn start(&self, state: &mut ShardState<K>, key: &K, charge: u64) -> Result<Option<u64>, Refusal>
-        ensures { IfErr result (λ e. e ≢ Refusal.Stale) }
-    {
-        if state.makings.contains(key) {
-            return Ok(None);
-        }
-        if state.seats.total().checked_add(charge).is_none() {
-            return Err(Refusal::Overflow);
-        }
-        let key_copy = key.clone()?;
-        Ok(Some(state.makings.begin(key_copy)?))
     }
 
     // Waits until a making ends or is invalidated.
@@ -251,20 +208,8 @@ impl<K: Hash + Eq + Clone + Drop, V: Drop, F: Fit<K, V>> Shard<K, V, F> {
     /// Returns the sum of the charges of the entries that somebody has pinned.
     pub fn pinned_charge<R: Wait>(&self, rt: &R) -> u64 {
         let guard = self.lock(rt);
-        let pinned = self.pinned_among(&guard);
+        let pinned = self.core.pinned_charge(&guard);
         self.unlock(guard, None);
-        pinned
-    }
-
-    fn pinned_among(&self, state: &ShardState<K>) -> u64 {
-        let mut pinned = 0u64;
-        for place in 0..state.seats.places() {
-            if let Some(slot) = self.slot(place) {
-                if slot.is_pinned() {
-                    pinned = pinned.saturating_add(state.seats.charge_at(place));
-                }
-            }
-        }
         pinned
     }
 

@@ -5,14 +5,14 @@ ghost use Rattle.std.specs.Prelude.{length, replicate, List, Some, IfNone};
 ghost use Rattle.std.proofs.Math.ListN.{set};
 ghost use Rattle.lru_clock.specs.Index.{IsSize};
 ghost use Rattle.lru_clock.specs.Seats.{seat as seat_of, HasKeyAt, LacksKey, IsIndex};
-ghost use Rattle.lru_clock.specs.SeatChanges.{IsFree, ListsAt, UnlistsAt};
+ghost use Rattle.lru_clock.specs.Evictions.{charge_at, tag_at, places_of};
+ghost use Rattle.lru_clock.specs.SeatChanges.{IsFree, IsVacant, ListsAt, UnlistsAt};
 
 use crate::index::{Index, Words, word_of};
 use crate::store::search::{Search, find_key};
 use crate::store::seat::Seat;
 use crate::store::{Left, Taken};
 use concurrent_lru::fit::Fit;
-use concurrent_lru::sealed::Sealed;
 use concurrent_lru::shown::Shown;
 use std::alloc::{AllocError, Global};
 use std::marker::Model;
@@ -99,7 +99,9 @@ impl<K: Eq + Drop> Seats<K> {
     }
 
     /// Returns the place that the next seat will have, which is the number of seats.
-    pub fn places(&self) -> u32 {
+    pub fn places(&self) -> u32
+        ensures { result ≡ places_of self.now }
+    {
         u32::try_from(self.seats.len()).unwrap_or(u32::MAX)
     }
 
@@ -109,10 +111,28 @@ impl<K: Eq + Drop> Seats<K> {
     }
 
     /// Returns the charge of the entry at a place, or 0 if there is none.
-    pub fn charge_at(&self, place: u32) -> u64 {
+    pub fn charge_at(&self, place: u32) -> u64
+        ensures { result ≡ charge_at self.now place }
+    {
         match self.seats.get(place as usize) {
             Some(seat) => seat.charge(),
             None => 0,
+        }
+    }
+
+    /// Returns the tag of the entry at a place, if the index has the entry.
+    pub fn listed_tag(&self, place: u32) -> Option<u32>
+        ensures { result ≡ tag_at self.now place }
+    {
+        match self.seats.get(place as usize) {
+            Some(seat) => {
+                if seat.is_listed() {
+                    Some(seat.tag())
+                } else {
+                    None
+                }
+            }
+            None => None,
         }
     }
 
@@ -176,7 +196,8 @@ impl<K: Eq + Drop> Seats<K> {
         key: Option<K>,
     ) -> Result<Reservation<K>, Option<K>>
         ensures { MatchResult result
-            (λ r. (self.new ≡ set self.old r.place (seat_of charge tag key)) × (r.key.value ≡ key))
+            (λ r. (self.new ≡ set self.old r.place (seat_of charge tag key)) × (r.key.value ≡ key)
+            × IsVacant self.old r.place)
             (λ back. (self.new ≡ self.old) × (back ≡ key)) }
     {
         let place = self.vacant;
@@ -201,12 +222,15 @@ impl<K: Eq + Drop> Seats<K> {
 
     /// Gives back the place of an entry that was taken out, and returns the entry with the copy of
     /// its key. Its charge no longer counts, and the index no longer has it.
-    pub fn vacate<V, F: Fit<K, V>>(&mut self, taken: Taken<K, V, F>) -> Sealed<Left<K, V, F>>
-        ensures { self.new ≡ set self.old taken.place (seat_of 0 0 None) }
+    pub fn vacate<'a, V: Drop, F: Fit<K, V>>(
+        &mut self,
+        taken: Taken<'a, K, V, F>,
+    ) -> Left<'a, K, V, F>
+        ensures seats { self.new ≡ set self.old taken.entry.place (seat_of 0 0 None) }
+        ensures book { result ≡ Some taken.entry.claimed }
     {
-        let Taken { place, emptied } = taken;
-        let key_copy = self.empty(place);
-        Sealed::of(Left::of(emptied, key_copy))
+        let key_copy = self.empty(taken.place);
+        Left::in_slot(taken, key_copy)
     }
 
     /// Adds the entry at a place to the index, unless the index already has an entry of its key.
@@ -249,7 +273,8 @@ impl<K: Eq + Drop> Seats<K> {
     // Returns the vacant place after this one, if an entry of this charge may be put at this one:
     // if it is vacant, and the sum of the charges stays within a `u64`.
     fn vacant_after(&self, place: u32, charge: u64) -> Option<u32>
-        ensures { IfSome result (λ _. IsFree self.now place charge) }
+        ensures free { IfSome result (λ _. IsFree self.now place charge) }
+        ensures vacant { IfSome result (λ _. IsVacant self.now place) }
     {
         let next = self.seats.get(place as usize)?.next()?;
         if self.total.checked_add(charge).is_some() {

@@ -1,22 +1,55 @@
 //! Slots, each with room for one entry and a word that says who may read or write the entry.
 //!
-//! The low half of the word is laid out by the kit's `Counted`: two bits for the state, and 30 for
-//! the number of pins. The high half is the number of the entry's chances: how often the hand of
-//! the clock spares the entry before it evicts it. So a hit adds its pin and a chance in one
-//! compare-exchange.
-ghost use Rattle.std.specs.Prelude.{◌≡◌, ◌<◌, ◌≤◌, ◌%◌, IfErr, IfOk, IfSome, IsTrue};
-ghost use Rattle.counted_slot.specs.Counting.{readers, IsTurn};
-ghost use Rattle.lru_clock.specs.History.{turns};
+//! The low half of the word is laid out by `lru_slot`: two bits for the state, and 30 for the
+//! number of pins. The high half is the number of the entry's chances: how often the hand spares
+//! the entry before it evicts it. So a hit adds its pin and a chance in one compare-exchange. Above
+//! the chances is the number of holds, which `holds` says more of.
+//!
+//! The life of a slot, by the states of its word:
+//!
+//! ```text
+//!             claim             fill                mark
+//!     FREE ----------> TAKEN ----------> PRESENT ----------> MARKED
+//!       ^              |   ^                |                   |
+//!       |     free     |   | look, take_at  |   look, take_at   |
+//!       +--------------+   +----------------+-------------------+
+//! ```
+//!
+//! The holder of the lock takes these steps:
+//!
+//! - `FREE` to `TAKEN`, by a compare-exchange: the slot is about to get an entry;
+//! - `TAKEN` to `PRESENT`, or to `MARKED` if the entry was invalidated before it came, by a store:
+//!   the entry is there, with a pin of whoever stored it;
+//! - `PRESENT` to `MARKED`, by a compare-exchange: the entry is invalidated;
+//! - one chance less or all, only without pins, by a compare-exchange: a look;
+//! - `PRESENT` or `MARKED` to `TAKEN`, only without pins, by a compare-exchange: the entry is about
+//!   to leave. It stays in the slot until another entry takes its place;
+//! - `TAKEN` to `FREE`, by a store, if no other entry does: the slot is empty.
+//!
+//! Anybody takes these:
+//!
+//! - a pin more and perhaps a chance, only in `PRESENT`, by a compare-exchange: a hit, or a
+//!   comparison of keys;
+//! - a chance less, by a compare-exchange, after a comparison of keys that differ;
+//! - a pin less, by a subtraction: whoever has the pin gives it back.
+ghost use Rattle.std.specs.Prelude.{◌≡◌, ◌≢◌, ◌<◌, ◌%◌, IfErr, IfOk, IfSome, IsTrue};
+ghost use Rattle.std.specs.Prelude.{MatchOption};
+ghost use Rattle.lru_slot.specs.Words.{readers, IsTurn};
 ghost use Rattle.lru_clock.specs.History.{entry};
 ghost use Rattle.lru_clock.specs.Arrivals.{Arrives};
 ghost use Rattle.lru_clock.specs.Hits.{Sees};
+ghost use Rattle.lru_clock.specs.Looks.{after_look as after_look_};
+
+mod claimed;
+mod holds;
 
 use crate::history::{Arrival, Chronicle, Count, Log, Past, Track};
-use crate::sent::Sent;
+use crate::order::{Cost, Look};
+pub use crate::store::slot::claimed::{Claimed, Taken};
 use concurrent_lru::fit::{Anything, Fit};
 use concurrent_lru::sharded::Refusal;
 use concurrent_lru::shown::Shown;
-use counted_slot::{Claim, Counted, FREE, Fits, MARKED, ONE_READER, PRESENT, TAKEN};
+use lru_slot::{Claim, Counted, FREE, Fits, MARKED, ONE_READER, PRESENT, TAKEN};
 use std::marker::{Model, PhantomData};
 use std::mem::size_of;
 
@@ -25,6 +58,8 @@ use std::mem::size_of;
 pub const MOST_PINS: u64 = 0x3fff_fffe;
 
 const ONE_CHANCE: u64 = 0x1_0000_0000;
+
+const ONE_HOLD: u64 = 0x4_0000_0000;
 
 // The least word with the maximum number of chances.
 const MOST_CHANCES: u64 = 0x3_0000_0000;
@@ -58,12 +93,6 @@ impl<K: Eq, V, F: Fit<K, V>> Fits for Stored<K, V, F> {
         × Arrives word stored.arrival (entry stored.kept.key stored.kept.value) };
 }
 
-/// A debt: an entry that was taken out of its slot. It becomes a part of a `Taken`, which
-/// `Seats::vacate` takes.
-pub struct Emptied<K: Eq, V, F: Fit<K, V>> {
-    pub(super) kept: Kept<K, V, F>,
-}
-
 /// Room for one entry. A `PRESENT` entry is found by its key; a `MARKED` one was invalidated, and
 /// stays for those who have pinned it.
 #[derive(Drop)]
@@ -81,7 +110,7 @@ const _: () = prove!(size_of::<Slot<u64, u64, Anything>>() == 48);
 /// Clauses see the key that the caller asked for, the value, which fits that key by the mark `F`,
 /// and the prefix of the history that the call saw.
 pub struct Pin<'a, K: Eq, V, F: Fit<K, V>> {
-    claim: Sent<'a, Option<Stored<K, V, F>>>,
+    claim: Claim<'a, Option<Stored<K, V, F>>>,
     asked: Shown<K>,
     shown: Shown<V>,
     seen: Log<K, V>,
@@ -100,7 +129,8 @@ impl<'a, K: Eq, V, F: Fit<K, V>> Model for Pin<'a, K, V, F> {
       log = p.seen.log;
     } };
 
-    ghost invariant = { λ p. IsSomeAnd p.claim (λ slot. IsSomeAnd slot
+    ghost invariant = { λ p. (p.claim.right ≡ 1)
+        × IsSomeAnd p.claim.value (λ slot. IsSomeAnd slot
         (λ stored. stored.kept.value ≡ p.shown.value))
         × F.fits p.asked.value p.shown.value };
 }
@@ -128,12 +158,33 @@ fn pins_of(word: u64) -> u64
     word % ONE_CHANCE / ONE_READER
 }
 
-// Returns whether the slot with this word has an entry that nobody has pinned.
+// Returns whether somebody has pinned or holds the entry of a slot with this word.
+fn is_kept(word: u64) -> bool {
+    pins_of(word) != 0 || word >= ONE_HOLD
+}
+
+// Returns whether the slot with this word has an entry that nobody has pinned or holds.
 fn is_idle(word: u64) -> bool
-    ensures { IsTrue result → IsTurn word 3 }
+    ensures turn { IsTrue result → IsTurn word 3 }
+    ensures unheld { IsTrue result → word < 17179869184 }
 {
     let state = state_of(word);
-    pins_of(word) == 0 && (state == PRESENT || state == MARKED)
+    pins_of(word) == 0 && word < ONE_HOLD && (state == PRESENT || state == MARKED)
+}
+
+// Returns the word of a slot after a look that found this one, and an entry that nobody has pinned.
+fn after_look(word: u64, cost: Cost) -> u64
+    requires { IsTurn word 3 }
+    ensures word { result ≡ after_look_ cost word }
+    ensures turn { IsTurn word result }
+{
+    if state_of(word) != PRESENT || word < ONE_CHANCE {
+        return TAKEN;
+    }
+    match cost {
+        Cost::OneChance => word - ONE_CHANCE,
+        Cost::AllChances => word % ONE_CHANCE,
+    }
 }
 
 impl<K: Eq + Drop, V: Drop, F: Fit<K, V>> Slot<K, V, F> {
@@ -233,90 +284,31 @@ impl<K: Eq + Drop, V: Drop, F: Fit<K, V>> Slot<K, V, F> {
     #[inline(never)]
     fn lose_chance(&self) {
         let seen = self.cell.load();
-        if state_of(seen) == PRESENT && seen >= ONE_CHANCE {
+        if state_of(seen) == PRESENT && seen % ONE_HOLD >= ONE_CHANCE {
             let (_, claim) = self.cell.turn(seen, seen - ONE_CHANCE);
             claim.done();
         }
     }
 
-    /// Returns whether the entry, if there is one, is pinned.
+    /// Returns whether the entry, if there is one, is pinned or held.
     pub fn is_pinned(&self) -> bool {
-        pins_of(self.cell.load()) != 0
+        is_kept(self.cell.load())
     }
 
-    // Pins the entry that the caller has just stored, which it recognizes by its arrival.
-    fn pin_stored(
-        &self,
-        key: &K,
-        arrival: &Arrival<K, V>,
-        value: &Shown<V>,
-    ) -> Option<Pin<'_, K, V, F>>
-        requires came { (l : K)
-            × Arrives self.now.track.word arrival.now (entry l value.now.value) }
-        ensures pin { IfSome result (λ p. (p.key ≡ key.now) × F.fits key.now p.value) }
-        ensures value { IfSome result (λ p. p.value ≡ value.now.value) }
+    /// Claims a free slot, which is about to get an entry. Returns `None` if the slot is not free.
+    pub(super) fn claim(&self) -> Option<Claimed<'_, K, V, F>>
+        ensures { IfSome result (λ claimed. claimed ≡ self.now.track.word.book) }
     {
-        for _ in 0..u64::MAX {
-            let seen = self.cell.load();
-            let state = state_of(seen);
-            if (state != PRESENT && state != MARKED) || pins_of(seen) > MOST_PINS {
-                return None;
-            }
-            let (found, claim) = self.cell.turn(seen, seen + ONE_READER);
-            if found == seen {
-                return Pin::of_stored(claim, key, &self.track, arrival, value);
-            }
+        let (found, claim) = self.cell.turn(FREE, TAKEN);
+        if found != FREE {
             claim.done();
+            return None;
         }
-        None
-    }
-
-    /// Stores an entry in a free slot, and pins it. If the entry is already invalidated, it leaves
-    /// the history at once, and nobody else can pin it.
-    ///
-    /// Returns the entry if it cannot be stored, and `None` if it cannot be pinned.
-    pub(super) fn fill(
-        &self,
-        key: &K,
-        kept: Kept<K, V, F>,
-        is_invalidated: bool,
-        number: u64,
-        seen: &Log<K, V>,
-    ) -> Result<Option<Pin<'_, K, V, F>>, Kept<K, V, F>>
-        requires fits { F.fits kept.key kept.value }
-        requires book { seen.now.book ≡ self.now.track.word.book }
-        requires drawn { number ≤ turns 1 seen.now.log }
-        ensures pin { IfOk result (λ found. IfSome found
-            (λ p. (p.key ≡ key.now) × F.fits key.now p.value)) }
-        ensures value { IfOk result (λ found. IfSome found (λ p. p.value ≡ kept.value)) }
-    {
-        let word = self.cell.load();
-        if state_of(word) != FREE {
-            return Err(kept);
-        }
-        let (found, claim) = self.cell.turn(word, TAKEN);
-        if found != word {
-            claim.done();
-            return Err(kept);
-        }
-        // Always `Some`, since nobody else changes the counter of a slot without the lock.
-        let Some(arrival) = self.track.come(number, seen, &kept.key, &kept.value) else {
-            // The slot was free, so here and below `put` returns `None`.
-            let _ = claim.put(None, FREE);
-            return Err(kept);
-        };
-        let value = Shown::of(&kept.value);
-        let stored = Stored {
-            kept,
-            arrival: arrival.again(),
-        };
-        if is_invalidated {
-            self.track.leave();
-            let _ = claim.put(Some(stored), MARKED);
-        } else {
-            let _ = claim.put(Some(stored), PRESENT);
-        }
-        Ok(self.pin_stored(key, &arrival, &value))
+        Some(Claimed {
+            slot: self,
+            claim,
+            is_recorded: false,
+        })
     }
 
     /// Invalidates the entry: nobody can pin it any more, but it stays for the callers that have.
@@ -335,65 +327,108 @@ impl<K: Eq + Drop, V: Drop, F: Fit<K, V>> Slot<K, V, F> {
         }
     }
 
-    /// Lets the hand of the clock pass: an entry that nobody has pinned loses a chance, or is taken
-    /// out if it has none. So is an invalidated one, whatever its chances.
-    pub(super) fn pass(&self) -> Option<Emptied<K, V, F>> {
+    /// Looks at the entry, if there is one. An entry that nobody has pinned loses one chance or all
+    /// of them, as `cost` says, or is taken out if it has none. So is an invalidated one, whatever
+    /// its chances.
+    ///
+    /// If the word changes meanwhile, nothing is done, and the entry counts as pinned.
+    pub(super) fn look(&self, place: u32, cost: Cost) -> (Look, Option<Taken<'_, K, V, F>>)
+        ensures found { MatchOption result.1 (result.0 ≢ Look.Unused)
+            (λ taken. (taken.place ≡ place) × (result.0 ≡ Look.Unused)) }
+        ensures book { IfSome result.1 (λ taken. taken.claimed ≡ self.now.track.word.book) }
+    {
         let seen = self.cell.load();
         if !is_idle(seen) {
-            return None;
+            return (Look::Pinned, None);
         }
-        if state_of(seen) == PRESENT && seen >= ONE_CHANCE {
-            let (_, claim) = self.cell.turn(seen, seen - ONE_CHANCE);
+        let next = after_look(seen, cost);
+        let (found, claim) = self.cell.turn(seen, next);
+        if found != seen {
             claim.done();
-            return None;
+            return (Look::Pinned, None);
         }
-        self.take_at(seen)
+        if next != TAKEN {
+            claim.done();
+            return (Look::Used, None);
+        }
+        (Look::Unused, Some(self.taken(place, seen, claim)))
     }
 
     /// Takes out the entry, whatever its chances, if nobody has pinned it.
-    pub(super) fn take_idle(&self) -> Option<Emptied<K, V, F>> {
+    pub(super) fn take_idle(&self, place: u32) -> Option<Taken<'_, K, V, F>>
+        ensures place { IfSome result (λ taken. taken.place ≡ place) }
+        ensures book { IfSome result (λ taken. taken.claimed ≡ self.now.track.word.book) }
+    {
         let seen = self.cell.load();
         if is_idle(seen) {
-            self.take_at(seen)
+            self.take_at(place, seen)
         } else {
             None
         }
     }
 
     /// Takes out the entry if it was invalidated and nobody has pinned it.
-    pub(super) fn take_invalidated(&self) -> Option<Emptied<K, V, F>> {
+    pub(super) fn take_invalidated(&self, place: u32) -> Option<Taken<'_, K, V, F>>
+        ensures place { IfSome result (λ taken. taken.place ≡ place) }
+        ensures book { IfSome result (λ taken. taken.claimed ≡ self.now.track.word.book) }
+    {
         let seen = self.cell.load();
-        if state_of(seen) == MARKED && pins_of(seen) == 0 {
-            self.take_at(seen)
+        if state_of(seen) == MARKED && is_idle(seen) {
+            self.take_at(place, seen)
         } else {
             None
         }
     }
 
-    // Takes out the entry and leaves the slot free, unless the word has changed.
-    fn take_at(&self, seen: u64) -> Option<Emptied<K, V, F>>
-        requires { IsTurn seen 3 }
+    // Takes out the entry, unless the word has changed.
+    fn take_at(&self, place: u32, seen: u64) -> Option<Taken<'_, K, V, F>>
+        requires turn { IsTurn seen 3 }
+        requires unheld { seen < 17179869184 }
+        ensures place { IfSome result (λ taken. taken.place ≡ place) }
+        ensures book { IfSome result (λ taken. taken.claimed ≡ self.now.track.word.book) }
     {
         let (found, claim) = self.cell.turn(seen, TAKEN);
         if found != seen {
             claim.done();
             return None;
         }
-        // An invalidated entry has already left the history.
-        if state_of(seen) == PRESENT {
-            self.track.leave();
-        }
-        match claim.put(None, FREE) {
-            Some(stored) => Some(stored.emptied()),
-            None => None,
+        Some(self.taken(place, seen, claim))
+    }
+
+    // Returns the debt of the entry of this slot, whose word was `seen`, without a hold, before
+    // this caller took it.
+    fn taken<'a>(
+        &'a self,
+        place: u32,
+        seen: u64,
+        claim: Claim<'a, Option<Stored<K, V, F>>>,
+    ) -> Taken<'a, K, V, F>
+        requires right { claim.right ≡ 2 }
+        requires unheld { seen < 17179869184 }
+        requires slot { claim.tag ≡ self.now.track.word }
+        ensures place { result.place ≡ place }
+        ensures book { result.claimed ≡ self.now.track.word.book }
+    {
+        Taken {
+            place,
+            claimed: Claimed {
+                slot: self,
+                claim,
+                is_recorded: state_of(seen) == PRESENT,
+            },
         }
     }
 }
 
 impl<K: Eq, V, F: Fit<K, V>> Stored<K, V, F> {
-    fn emptied(self) -> Emptied<K, V, F> {
-        let Self { kept, arrival: _ } = self;
-        Emptied { kept }
+    // Returns the entry that was in a slot.
+    fn into_kept(stored: Option<Self>) -> Option<Kept<K, V, F>>
+    where
+        K: Drop,
+        V: Drop,
+    {
+        let Stored { kept, arrival: _ } = stored?;
+        Some(kept)
     }
 
     // Shows the value, with a prefix of the history, if the entry has this key. With a past, the
@@ -419,29 +454,6 @@ impl<K: Eq, V, F: Fit<K, V>> Stored<K, V, F> {
             return Some((Shown::of(&self.kept.value), seen));
         }
         None
-    }
-
-    // Shows the value, if the entry has this key and came by this arrival.
-    fn recognize(
-        &self,
-        key: &K,
-        track: &Track<K, V>,
-        arrival: &Arrival<K, V>,
-        value: &Shown<V>,
-    ) -> Option<Shown<V>>
-        requires fits { F.fits self.now.kept.key self.now.kept.value }
-        requires stored { Arrives track.now.word self.now.arrival
-            (entry self.now.kept.key self.now.kept.value) }
-        requires came { (l : K) × Arrives track.now.word arrival.now (entry l value.now.value) }
-        ensures value { IfSome result (λ found. found.value ≡ self.now.kept.value) }
-        ensures fits { IfSome result (λ found. F.fits key.now found.value) }
-        ensures same { IfSome result (λ found. found.value ≡ value.now.value) }
-    {
-        if self.kept.key == *key && self.arrival.is(arrival) {
-            Some(Shown::of(&self.kept.value))
-        } else {
-            None
-        }
     }
 }
 
@@ -476,7 +488,7 @@ impl<'a, K: Eq, V, F: Fit<K, V>> Pin<'a, K, V, F> {
                     return Err(Refusal::Overflow);
                 }
                 Ok(Some(Pin {
-                    claim: Sent::of(claim),
+                    claim,
                     asked: Shown::of(key),
                     shown,
                     seen,
@@ -485,38 +497,6 @@ impl<'a, K: Eq, V, F: Fit<K, V>> Pin<'a, K, V, F> {
             None => {
                 claim.leave();
                 Ok(None)
-            }
-        }
-    }
-
-    // Keeps a pin of the entry that came by this arrival, and releases any other pin.
-    fn of_stored(
-        claim: Claim<'a, Option<Stored<K, V, F>>>,
-        key: &K,
-        track: &Track<K, V>,
-        arrival: &Arrival<K, V>,
-        value: &Shown<V>,
-    ) -> Option<Self>
-        requires read { claim.right ≡ 1 }
-        requires slot { claim.tag ≡ track.now.word }
-        requires came { (l : K) × Arrives track.now.word arrival.now (entry l value.now.value) }
-        ensures pin { IfSome result (λ p. (p.key ≡ key.now) × F.fits key.now p.value) }
-        ensures value { IfSome result (λ p. p.value ≡ value.now.value) }
-    {
-        let found = match claim.get() {
-            Some(stored) => stored.recognize(key, track, arrival, value),
-            None => None,
-        };
-        match found {
-            Some(shown) => Some(Pin {
-                claim: Sent::of(claim),
-                asked: Shown::of(key),
-                shown,
-                seen: arrival.log.again(),
-            }),
-            None => {
-                claim.leave();
-                None
             }
         }
     }

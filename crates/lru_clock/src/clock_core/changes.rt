@@ -1,0 +1,227 @@
+//! The changes of a shard: entries that come, and entries that leave other than by eviction.
+ghost use Rattle.std.specs.Prelude.{◌≡◌, ◌≢◌, true, Some, IfErr, IfOk, IfSome, MatchResult, sum_by};
+ghost use Rattle.lru_clock.specs.Evictions.{Comes};
+ghost use Rattle.lru_clock.specs.Orders.{IsWidened};
+ghost use Rattle.lru_clock.specs.SeatChanges.{Charges, KeepsCharges};
+ghost use Rattle.lru_clock.specs.Seats.{LacksKey};
+
+use crate::clock_core::Core;
+use crate::shard_state::ShardState;
+use crate::store::{Kept, Left, Looks, Pin, Reservation};
+use concurrent_lru::fit::Fit;
+use concurrent_lru::sharded::Refusal;
+use std::marker::PhantomData;
+
+impl<K: Eq + Clone + Drop, V: Drop, F: Fit<K, V>> Core<K, V, F> {
+    /// Returns a new entry, with a copy of the key.
+    ///
+    /// Returns `Memory` if the copy is refused.
+    pub fn new_entry(&self, key: &K, value: V) -> Result<Kept<K, V, F>, Refusal>
+        requires fits { F.fits key.now value }
+        ensures fits { IfOk result (λ kept. F.fits kept.key kept.value) }
+        ensures value { IfOk result (λ kept. kept.value ≡ value) }
+        ensures err { IfErr result (λ e. e ≡ Refusal.Memory) }
+    {
+        Ok(Kept {
+            key: key.clone()?,
+            value,
+            mark: PhantomData,
+        })
+    }
+
+    /// Checks that an entry of this charge can be stored: that the sum of the charges stays within
+    /// a `u64`, and that there is a vacant place, which is added if there is none.
+    ///
+    /// Returns `Overflow` if the sum does not, and `Memory` and `Overflow` as `Store::grow` does.
+    #[tactic(auto, using(crate::proofs::FirstBits::same_widened))]
+    pub fn admit(&self, state: &mut ShardState<K>, charge: u64) -> Result<(), Refusal>
+        ensures never_stale { IfErr result (λ e. e ≢ Refusal.Stale) }
+        ensures order { IsWidened state.old.order state.new.order }
+        ensures capacity { state.new.capacity ≡ state.old.capacity }
+        ensures total { sum_by (λ seat. seat.charge) state.new.seats
+            ≡ sum_by (λ seat. seat.charge) state.old.seats }
+        ensures makings { state.new.makings ≡ state.old.makings }
+    {
+        if state.seats.total().checked_add(charge).is_none() {
+            return Err(Refusal::Overflow);
+        }
+        if state.seats.has_vacant() {
+            return Ok(());
+        }
+        self.store
+            .grow(self.alloc, &mut state.seats, &mut state.order)
+    }
+
+    /// Stores an entry in a vacant place, and pins it. It has no chance yet. An entry without a
+    /// copy of its key is already invalidated, and only this caller gets it. If the place is that
+    /// of the entry that has just left, the new entry takes its slot.
+    ///
+    /// Returns `Memory` and `Overflow` as `admit` does, with the entry that was refused.
+    pub fn put<'a>(
+        &'a self,
+        state: &mut ShardState<K>,
+        tag: u32,
+        key: &K,
+        charge: u64,
+        kept: Kept<K, V, F>,
+        key_copy: Option<K>,
+        left: &mut Option<Left<'a, K, V, F>>,
+    ) -> Result<(u32, Pin<'a, K, V, F>), (Refusal, Left<'a, K, V, F>)>
+        requires fits { F.fits kept.key kept.value }
+        requires asked { F.fits key.now kept.value }
+        requires copy { IfSome key_copy (λ copy. K.eq copy kept.key ≡ true) }
+        requires book { IfSome left.old
+            (λ l. IfSome l (λ b. b ≡ self.now.store.chronicle.first.book)) }
+        ensures pin { IfOk result
+            (λ found. (found.1.key ≡ key.now) × F.fits key.now found.1.value) }
+        ensures value { IfOk result (λ found. found.1.value ≡ kept.value) }
+        ensures never_stale { IfErr result (λ e. e.0 ≢ Refusal.Stale) }
+        ensures order { MatchResult result
+            (λ found. Comes state.new.seats found.0 state.old.capacity
+            state.old.order state.new.order)
+            (λ _. IsWidened state.old.order state.new.order) }
+        ensures charged { MatchResult result
+            (λ found. Charges charge found.0 state.old.seats state.new.seats)
+            (λ _. sum_by (λ seat. seat.charge) state.new.seats
+            ≡ sum_by (λ seat. seat.charge) state.old.seats) }
+        ensures makings { state.new.makings ≡ state.old.makings }
+    {
+        let is_listed = key_copy.is_some();
+        let reservation = match self.reserve_seat(state, charge, tag, key_copy) {
+            Ok(reservation) => reservation,
+            Err((refusal, key_copy)) => return Err((refusal, Left::refused(kept, key_copy))),
+        };
+        match self.store.fill(reservation, key, kept, !is_listed, left) {
+            Ok((place, pin)) => {
+                self.list(state, place);
+                state.come(place);
+                Ok((place, pin))
+            }
+            Err((reservation, kept)) => {
+                let refused = Left::refused(kept, state.seats.cancel(reservation));
+                Err((Refusal::Overflow, refused))
+            }
+        }
+    }
+
+    // Adds an entry to the index. If the index has another entry of its key, or the entry has no
+    // copy of its key, invalidates it.
+    fn list(&self, state: &mut ShardState<K>, place: u32)
+        ensures same { state.new ≡ record state.old { seats = state.new.seats } }
+        ensures charges { KeepsCharges state.old.seats state.new.seats }
+    {
+        if !state.seats.list(place) {
+            if let Some(slot) = self.store.slot(place) {
+                slot.mark();
+            }
+        }
+    }
+
+    // Takes a vacant place for an entry, and counts its charge.
+    //
+    // Returns the copy of its key with the refusal if the entry cannot be stored.
+    fn reserve_seat(
+        &self,
+        state: &mut ShardState<K>,
+        charge: u64,
+        tag: u32,
+        key_copy: Option<K>,
+    ) -> Result<Reservation<K>, (Refusal, Option<K>)>
+        ensures done { IfOk result (λ r. r.key.value ≡ key_copy) }
+        ensures refused { IfErr result (λ e. e.0 ≢ Refusal.Stale) }
+        ensures order { IsWidened state.old.order state.new.order }
+        ensures capacity { state.new.capacity ≡ state.old.capacity }
+        ensures charged { MatchResult result
+            (λ r. Charges charge r.place state.old.seats state.new.seats)
+            (λ _. sum_by (λ seat. seat.charge) state.new.seats
+            ≡ sum_by (λ seat. seat.charge) state.old.seats) }
+        ensures makings { state.new.makings ≡ state.old.makings }
+    {
+        if let Err(refusal) = self.admit(state, charge) {
+            return Err((refusal, key_copy));
+        }
+        match state.seats.reserve(charge, tag, key_copy) {
+            Ok(reservation) => Ok(reservation),
+            Err(key_copy) => Err((Refusal::Overflow, key_copy)),
+        }
+    }
+
+    /// Invalidates the key's entry. If that removes no entry, evicts one if the charge needs the
+    /// room.
+    pub fn replace(
+        &self,
+        state: &mut ShardState<K>,
+        tag: u32,
+        key: &K,
+        charge: u64,
+    ) -> Option<Left<'_, K, V, F>>
+        ensures { IfSome result (λ l. l ≡ Some self.now.store.chronicle.first.book) }
+    {
+        match self.invalidate_entry(state, tag, key) {
+            Some(leaver) => Some(leaver),
+            None => self.make_room(state, charge, &mut Looks::new()),
+        }
+    }
+
+    /// Invalidates the key's entry, and removes it if nobody has pinned it. The index then has no
+    /// entry for the key.
+    pub fn invalidate_entry(
+        &self,
+        state: &mut ShardState<K>,
+        tag: u32,
+        key: &K,
+    ) -> Option<Left<'_, K, V, F>>
+        ensures book { IfSome result (λ l. l ≡ Some self.now.store.chronicle.first.book) }
+        ensures gone { LacksKey K.eq state.new.seats tag key.now }
+    {
+        let place = state.seats.find(tag, key)?;
+        state.seats.unlist(place);
+        self.store.slot(place)?.mark();
+        let taken = self.store.take_invalidated(place)?;
+        Some(state.vacate(taken, false))
+    }
+
+    /// Evicts the entry at a place if nobody has pinned it.
+    pub fn take_idle(&self, state: &mut ShardState<K>, place: u32) -> Option<Left<'_, K, V, F>> {
+        let taken = self.store.take_idle(place)?;
+        Some(state.vacate(taken, false))
+    }
+
+    /// Evicts the first entry that nobody has pinned, from the place `next` on.
+    pub fn take_next_idle(
+        &self,
+        state: &mut ShardState<K>,
+        next: &mut u32,
+    ) -> Option<Left<'_, K, V, F>> {
+        for place in *next..state.seats.places() {
+            if let Some(leaver) = self.take_idle(state, place) {
+                *next = place;
+                return Some(leaver);
+            }
+        }
+        None
+    }
+
+    /// Adds slots until there are as many as `entries`.
+    ///
+    /// Returns `Memory` and `Overflow` as `Store::grow` does. No entry changes.
+    pub fn grow_to(&self, state: &mut ShardState<K>, entries: usize) -> Result<(), Refusal>
+        ensures { IfErr result (λ e. e ≢ Refusal.Stale) }
+    {
+        for _ in state.seats.len()..entries {
+            self.store
+                .grow(self.alloc, &mut state.seats, &mut state.order)?;
+        }
+        Ok(())
+    }
+
+    /// Removes the entry at a place if it was invalidated and nobody has pinned it.
+    pub fn take_invalidated(
+        &self,
+        state: &mut ShardState<K>,
+        place: u32,
+    ) -> Option<Left<'_, K, V, F>> {
+        let taken = self.store.take_invalidated(place)?;
+        Some(state.vacate(taken, false))
+    }
+}

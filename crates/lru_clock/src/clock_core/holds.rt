@@ -1,0 +1,147 @@
+//! Holds of entries: lookups without the lock by callers that cannot keep a pin.
+ghost use Rattle.std.specs.Prelude.{◌≡◌, ◌≢◌, false, IfErr, IfOk};
+ghost use Rattle.std.specs.List.{list_any};
+ghost use Rattle.lru_clock.specs.Makings.{is_of};
+ghost use Rattle.lru_clock.specs.SeatChanges.{Charges};
+
+use crate::clock_core::Core;
+use crate::shard_state::ShardState;
+use crate::store::Released;
+use concurrent_lru::fit::Fit;
+use concurrent_lru::sharded::Refusal;
+
+impl<K: Eq + Clone + Drop, V: Copy + Drop, F: Fit<K, V>> Core<K, V, F> {
+    /// Holds the key's entry without the lock, gives it another chance, and returns its place and
+    /// its value. It may miss an entry while the index is being written.
+    ///
+    /// Returns `Overflow` if an entry of this tag has the maximum number of holds or pins.
+    #[inline(always)]
+    pub fn hold(&self, tag: u32, key: &K) -> Result<Option<(u32, V)>, Refusal>
+        ensures { IfErr result (λ e. e ≡ Refusal.Overflow) }
+    {
+        let Some(index) = self.store.index() else {
+            return Ok(None);
+        };
+        let mut probe = index.probe(tag);
+        for _ in 0..u64::MAX {
+            let Some(place) = index.next(&mut probe) else {
+                return Ok(None);
+            };
+            if let Some(slot) = self.store.slot(place) {
+                if let Some(value) = slot.hold(key)? {
+                    return Ok(Some((place, value)));
+                }
+            }
+        }
+        Ok(None)
+    }
+
+    /// Does what `hold` does, under the lock, where it misses no entry.
+    ///
+    /// Returns `Overflow` as `hold` does.
+    pub fn hold_listed(
+        &self,
+        state: &mut ShardState<K>,
+        tag: u32,
+        key: &K,
+    ) -> Result<Option<(u32, V)>, Refusal>
+        ensures same { state.new ≡ state.old }
+        ensures refused { IfErr result (λ e. e ≡ Refusal.Overflow) }
+    {
+        let Some((place, slot)) = self.listed(state, tag, key) else {
+            return Ok(None);
+        };
+        match slot.hold(key)? {
+            Some(value) => Ok(Some((place, value))),
+            None => Ok(None),
+        }
+    }
+
+    /// Holds the entry at a place, even an invalidated one, and returns its value.
+    ///
+    /// Returns `Overflow` if the entry has the maximum number of holds or pins.
+    pub fn hold_at(&self, place: u32) -> Result<Option<V>, Refusal>
+        ensures { IfErr result (λ e. e ≡ Refusal.Overflow) }
+    {
+        match self.store.slot(place) {
+            Some(slot) => slot.hold_any(),
+            None => Ok(None),
+        }
+    }
+
+    /// Ends a hold of the entry at a place, and returns the state of the entry afterwards. Returns
+    /// `None` if there is no hold.
+    #[inline(always)]
+    pub fn end_hold(&self, place: u32) -> Option<Released> {
+        self.store.slot(place)?.end_hold()
+    }
+
+    /// Stores a value for a key of which the index has no entry, holds the entry, and returns its
+    /// place. Later callers wait for no making of the key.
+    ///
+    /// Returns `Memory` if a copy of the key is refused, and `Memory` and `Overflow` as `put` does.
+    pub fn hold_new(
+        &self,
+        state: &mut ShardState<K>,
+        tag: u32,
+        key: &K,
+        charge: u64,
+        value: V,
+    ) -> Result<u32, Refusal>
+        requires fits { F.fits key.now value }
+        ensures unmade { IfOk result (λ _.
+            list_any (is_of K.eq key.now) state.new.makings ≡ false) }
+        ensures never_stale { IfErr result (λ e. e ≢ Refusal.Stale) }
+        ensures charged { IfOk result
+            (λ place. Charges charge place state.old.seats state.new.seats) }
+    {
+        let place = self.hold_entry(state, tag, key, charge, value, true)?;
+        state.makings.invalidate(key);
+        state.counts.insertions = state.counts.insertions.wrapping_add(1);
+        Ok(place)
+    }
+
+    /// Stores a value, holds the entry, and returns its place. If the index is not to have the
+    /// entry, it is already invalidated, and only this caller gets it.
+    ///
+    /// Returns `Memory` and `Overflow` as `hold_new` does.
+    pub(crate) fn hold_entry(
+        &self,
+        state: &mut ShardState<K>,
+        tag: u32,
+        key: &K,
+        charge: u64,
+        value: V,
+        is_listed: bool,
+    ) -> Result<u32, Refusal>
+        requires fits { F.fits key.now value }
+        ensures never_stale { IfErr result (λ e. e ≢ Refusal.Stale) }
+        ensures charged { IfOk result
+            (λ place. Charges charge place state.old.seats state.new.seats) }
+        ensures makings { state.new.makings ≡ state.old.makings }
+    {
+        let kept = self.new_entry(key, value)?;
+        let key_copy = if is_listed {
+            Some(kept.key.clone()?)
+        } else {
+            None
+        };
+        let mut left = None;
+        let stored = self.put(state, tag, key, charge, kept, key_copy, &mut left);
+        if let Some(left) = left {
+            drop(left.into_parts());
+        }
+        let (place, pin) = match stored {
+            Ok(found) => found,
+            Err((refusal, refused)) => {
+                drop(refused.into_parts());
+                return Err(refusal);
+            }
+        };
+        // Never refused: nobody else has held the new entry.
+        let held = self.hold_at(place);
+        let _ = pin.release();
+        held?;
+        Ok(place)
+    }
+}
