@@ -10,3 +10,4 @@ pub mod AtWalk
 pub mod Lent
 pub mod Opened
 pub mod Forms
+pub mod ClockForms

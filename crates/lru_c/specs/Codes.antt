@@ -63,3 +63,9 @@ full = 20
 
 abbrev pub no_kind : ℕ
 no_kind = 21
+
+abbrev pub gone : ℕ
+gone = 22
+
+abbrev pub last : ℕ
+last = 23

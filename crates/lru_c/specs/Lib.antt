@@ -15,3 +15,6 @@ pub mod Calls
 pub mod Entries
 pub mod BytesCalls
 pub mod WordsCalls
+pub mod ClockPointers
+pub mod ClockLends
+pub mod Clocks

@@ -1,8 +1,8 @@
 //! The codes that calls return to C, as `lru.h` lists them.
 
-/// Pinned; the caller makes the value.
+/// The caller makes the value; in a cache, its entry is pinned.
 pub const MAKE: u32 = 0;
-/// Pinned; another caller makes the value.
+/// Another caller makes the value; in a cache, its entry is pinned.
 pub const WAIT: u32 = 1;
 /// Pinned; the value is returned.
 pub const HIT: u32 = 2;
@@ -16,7 +16,7 @@ pub const REMOVED: u32 = 5;
 pub const MISSED: u32 = 6;
 /// Refused: a number would overflow.
 pub const OVERFLOW: u32 = 7;
-/// Refused: the stamp names no entry that the call is for.
+/// Refused: the stamp, the place or the ticket names nothing that the call is for.
 pub const STALE: u32 = 8;
 /// Refused: the allocator refused memory.
 pub const MEMORY: u32 = 9;
@@ -30,7 +30,7 @@ pub const NO_PINS: u32 = 12;
 pub const CLOSED: u32 = 14;
 /// Refused: a handle that is open already.
 pub const OPEN: u32 = 15;
-/// Refused: a chain that still holds entries.
+/// Refused: a chain or a clock that still holds entries, or a clock with a making.
 pub const NOT_EMPTY: u32 = 16;
 /// Refused: a buffer that is too small.
 pub const NO_ROOM: u32 = 17;
@@ -42,3 +42,7 @@ pub const OTHER_KEYS: u32 = 19;
 pub const FULL: u32 = 20;
 /// Refused: a kind of keys that does not exist.
 pub const NO_KIND: u32 = 21;
+/// An entry has left the clock, and is returned; others may still have to leave.
+pub const GONE: u32 = 22;
+/// Done; the entry was invalidated, and this was its last pin, so it waits to be collected.
+pub const LAST: u32 = 23;

@@ -10,6 +10,7 @@ pub mod cache;
 pub mod calls;
 pub mod chain;
 mod chain_calls;
+pub mod clock;
 pub mod code;
 pub mod counts;
 pub mod entries;

@@ -1,0 +1,15 @@
+use contract.Running.{tables, tables_of}
+use denote.Triple.Spec.{triple_of}
+use denote.Triple.Table.{entered}
+use Rattle.lru_c.proofs.Moved.{moved}
+use Rattle.lru_c.proofs.ClockForms.{clock_handle, clock_pointer}
+use Rattle.lru_c.specs.contracts.clock.handles.ClockAt.of as F
+use Rattle.lru_c.specs.contracts.clock.handles.ClockAt.of.Key.{name as #self}
+use Rattle.lru_c.proofs.clock.handles.ClockAt.of.Statement as stated
+use Rattle.lru_c.proofs.clock.handles.ClockAt.of.Code as code
+
+pub of_spec : {M : Type 1} → stated.statement M
+unfolding tables_of
+of_spec 𝓤 𝓛 𝓜 𝓡 wired =
+    let 𝓣 = tables_of 𝓤 𝓛.H 𝓜 (tables 𝓤 𝓛.H 𝓜 𝓡 𝓡.env) in
+    entered 𝓤 𝓛.H (triple_of 𝓛 F.signature (F.spec 𝓛 𝓜.mem 𝓡.returns)) 𝓣.C 𝓣.Λ #self code.function (code.unfolded 𝓤 𝓛.H 𝓜 𝓡 wired) (moved clock_pointer clock_handle 𝓛 𝓣)

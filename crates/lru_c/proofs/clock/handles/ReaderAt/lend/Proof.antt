@@ -1,0 +1,17 @@
+use mathlib.Core.Path.{refl}
+use contract.Running.{tables, tables_of}
+use denote.Triple.Spec.{triple_of}
+use denote.Triple.Table.{entered}
+use Rattle.lru_c.specs.ClockPointers.{reader_row}
+use Rattle.lru_c.proofs.Lent.{meets}
+use Rattle.lru_c.proofs.ClockForms.{reader_handle}
+use Rattle.lru_c.specs.contracts.clock.handles.ReaderAt.lend as F
+use Rattle.lru_c.specs.contracts.clock.handles.ReaderAt.lend.Key.{name as #self}
+use Rattle.lru_c.proofs.clock.handles.ReaderAt.lend.Statement as stated
+use Rattle.lru_c.proofs.clock.handles.ReaderAt.lend.Code as code
+
+pub lend_spec : {M : Type 1} → stated.statement M
+unfolding tables_of
+lend_spec 𝓤 𝓛 𝓜 𝓡 wired =
+    let 𝓣 = tables_of 𝓤 𝓛.H 𝓜 (tables 𝓤 𝓛.H 𝓜 𝓡 𝓡.env) in
+    entered 𝓤 𝓛.H (triple_of 𝓛 F.signature (F.spec 𝓛 𝓜.mem 𝓡.returns)) 𝓣.C 𝓣.Λ #self code.function (code.unfolded 𝓤 𝓛.H 𝓜 𝓡 wired) (meets reader_row reader_handle refl _ _ 𝓛 𝓣)

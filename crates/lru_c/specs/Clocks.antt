@@ -1,0 +1,114 @@
+-- The calls from C on clocks and readers.
+use Rattle.std.specs.Prelude.{◌≡◌, ◌==◌, ◌⊎◌, ◌/◌, ◌^◌, ℕ, Bool, false, List, [], Option, None, Some, sum_by, MatchBool, MatchOption}
+use Rattle.std.specs.List.{list_any}
+use Rattle.std.proofs.Math.ListN.{set}
+use Rattle.lru_clock.specs.Begun.{IsBegun}
+use Rattle.lru_clock.specs.Evictions.{places_of}
+use Rattle.lru_clock.specs.Makings.{HasEnded, has_number, is_of}
+use Rattle.lru_clock.specs.SeatChanges.{Charges}
+use Rattle.lru_clock.specs.Seats.{Seat, seat, LacksKey}
+use Rattle.lru_clock.specs.declared.clock_core.makings.Begun.TheVariants as begun
+use Rattle.lru_clock.specs.declared.shard_state.ShardState.{ShardState}
+use Rattle.lru_c.specs.Codes as code
+use Rattle.lru_c.specs.Handles.{OnOpen}
+use Rattle.lru_c.specs.Keys.{words_eq}
+use Rattle.lru_c.specs.declared.clock.locked.Clock.{Clock}
+use Rattle.lru_c.specs.declared.clock.locked.ClockNumber.{ClockNumber}
+use Rattle.lru_c.specs.declared.clock.locked.ClockNumber.TheVariants as which
+use Rattle.lru_c.specs.declared.clock.reader.Reader.{Reader}
+use Rattle.lru_c.specs.declared.clock.told.LruFound.{LruFound}
+use Rattle.lru_c.specs.declared.words.key.Words.{Words}
+
+-- an answer of a code, a value and a place; one that is a code alone
+abbrev pub found : ℕ → ℕ → ℕ → LruFound
+found c value place = record { value = value; code = c; place = place }
+
+abbrev pub bare_found : ℕ → LruFound
+bare_found c = found c 0 0
+
+-- what is under the lock, and the seats of the places
+abbrev pub State : Type 0
+State = ShardState Words
+
+abbrev pub Seats : Type 0
+Seats = List (Seat Words)
+
+-- the tag of a hash
+abbrev pub tag_of : ℕ → ℕ
+tag_of hash = hash / 2 ^ 32
+
+-- A lookup pinned an entry and told its value and its place, or told nothing: it missed, or the
+-- entry has the maximum number of pins.
+abbrev pub IsLookup : LruFound → Type 0
+IsLookup t = (t.code ≡ code.hit) ⊎ (t ≡ bare_found code.missed) ⊎ (t ≡ bare_found code.overflow)
+
+-- A pin was given back, perhaps the last one of an invalidated entry; or there was none.
+abbrev pub IsRelease : ℕ → Type 0
+IsRelease c = (c ≡ code.done) ⊎ (c ≡ code.last) ⊎ (c ≡ code.stale)
+
+-- An entry left, or none did.
+abbrev pub LeavesAny : ℕ → Type 0
+LeavesAny c = (c ≡ code.gone) ⊎ (c ≡ code.done)
+
+-- The same; if none left, the seats are unchanged, and else one of them is vacant now.
+abbrev pub LeavesOne : Seats → ℕ → Seats → Type 0
+LeavesOne old c new = ((c ≡ code.gone) × (p : ℕ) × (new ≡ set old p (seat 0 0 None))) ⊎ ((c ≡ code.done) × (new ≡ old))
+
+-- a value for the key is being made that later callers wait for
+abbrev pub is_making : Words → State → Bool
+is_making key s = list_any (is_of words_eq key) s.makings
+
+-- The index has no entry of the key, and the entry that it had left if nobody had pinned it. Later
+-- callers wait for no making of the key.
+abbrev pub Erases : ℕ → Words → ℕ → State → Type 0
+Erases hash key c new = LeavesAny c × LacksKey words_eq new.seats (tag_of hash) key × (is_making key new ≡ false)
+
+-- An entry of this charge and value was stored and pinned, and later callers wait for no making of
+-- the key; or the key has one, which was looked up; or it is refused. A charge of 0 and a lookup
+-- change nothing.
+abbrev pub Adds : Words → ℕ → ℕ → State → LruFound → State → Type 0
+Adds key charge value old t new =
+    MatchBool (charge == 0) ((t ≡ bare_found code.no_charge) × (new ≡ old))
+    (((t.code ≡ code.done) × (t.value ≡ value) × Charges charge t.place old.seats new.seats × (is_making key new ≡ false)) ⊎ ((t.code ≡ code.hit) × (new ≡ old)) ⊎ ((t ≡ bare_found code.overflow) ⊎ (t ≡ bare_found code.memory)))
+
+-- The key has an entry, which was looked up; or nobody makes its value, and the caller does now,
+-- under a ticket that no other making has; or another caller makes it; or the caller is refused.
+-- Only a making that begins changes anything.
+abbrev pub BeginsMaking : Words → ℕ → State → LruFound → State → Type 0
+BeginsMaking key charge old t new =
+    MatchBool (charge == 0) ((t ≡ bare_found code.no_charge) × (new ≡ old))
+    (((t.code ≡ code.hit) × (new ≡ old)) ⊎ ((t ≡ found code.make t.value 0) × IsBegun {V = ℕ} words_eq key old (begun.Make t.value) new) ⊎ ((t ≡ bare_found code.wait) × IsBegun {V = ℕ} words_eq key old begun.Wait new) ⊎ (((t ≡ bare_found code.overflow) ⊎ (t ≡ bare_found code.memory)) × (new ≡ old)))
+
+-- The making with a ticket has ended, and an entry of this value was stored and pinned, or refused;
+-- or no making has the ticket. A charge of 0 and such a ticket change nothing.
+abbrev pub Readies : ℕ → ℕ → ℕ → State → LruFound → State → Type 0
+Readies ticket charge value old t new =
+    MatchBool (charge == 0) ((t ≡ bare_found code.no_charge) × (new ≡ old))
+    (((t.code ≡ code.done) × (t.value ≡ value) × Charges charge t.place old.seats new.seats × HasEnded ticket old.makings new.makings) ⊎ ((t ≡ bare_found code.stale) × (has_number ticket old.makings ≡ false) × (new ≡ old)) ⊎ (((t ≡ bare_found code.overflow) ⊎ (t ≡ bare_found code.memory)) × HasEnded ticket old.makings new.makings))
+
+-- The making with a ticket has ended; or none has it, and nothing changed. No seat changed.
+abbrev pub Fails : ℕ → State → ℕ → State → Type 0
+Fails ticket old c new = (((c ≡ code.done) × HasEnded ticket old.makings new.makings) ⊎ ((c ≡ code.stale) × (has_number ticket old.makings ≡ false) × (new ≡ old))) × (new.seats ≡ old.seats)
+
+-- the number of a clock that a call asked for
+abbrev pub number_of : ClockNumber → State → ℕ
+number_of which.Total s = sum_by (λ seat. seat.charge) s.seats
+number_of which.Capacity s = s.capacity
+number_of which.Places s = places_of s.seats
+
+-- A new clock has this capacity and no places.
+abbrev pub IsNewClock : ℕ → Clock → Type 0
+IsNewClock capacity c = (c.state.capacity ≡ capacity) × (c.state.seats ≡ [])
+
+-- A call on the clock behind a handle; or the handle is not open, and the call returned that.
+abbrev pub OnClock : Option Clock → ℕ → Option Clock → (State → State → Type 0) → Type 0
+OnClock old c new Step = OnOpen old new (λ o n. Step o.state n.state) (c ≡ code.closed)
+
+-- Freeing a clock closed its handle, unless it has entries or makings, which are left as they are.
+abbrev pub Frees : Option Clock → ℕ → Option Clock → Type 0
+Frees None c new = (c ≡ code.closed) × (new ≡ None)
+Frees (Some o) c new = ((c ≡ code.done) × (new ≡ None) × (o.state.makings ≡ [])) ⊎ ((c ≡ code.not_empty) × (new ≡ Some o))
+
+-- A call on the reader behind a handle, which it leaves as it is.
+abbrev pub OnReader : Option Reader → Type 0 → Option Reader → Type 0 → Type 0
+OnReader old Closed new Step = (new ≡ old) × MatchOption old Closed (λ _. Step)

@@ -1,0 +1,66 @@
+//! What the handle of a reader leads to.
+ghost use Rattle.std.specs.Prelude.{◌≡◌};
+ghost use Rattle.lru_c.specs.Clocks.{IsLookup, IsRelease};
+
+use crate::clock::told::LruFound;
+use crate::clock::{Entries, tag_of};
+use crate::code;
+use crate::words::key::Words;
+use concurrent_lru::sharded::Refusal;
+use lru_clock::clock_core::Released;
+use std::sync::Arc;
+
+/// A thread's access to the entries of a shard.
+#[derive(Drop)]
+pub struct Reader {
+    entries: Arc<Entries>,
+}
+
+impl Reader {
+    pub(crate) fn of(entries: Arc<Entries>) -> Reader {
+        Reader { entries }
+    }
+
+    // Pins the entry of a key.
+    #[inline(always)]
+    pub(crate) fn pin(&self, hash: u64, key: &Words) -> LruFound
+        ensures { IsLookup result }
+    {
+        told_of_lookup(self.entries.hold(tag_of(hash), key))
+    }
+
+    // Pins whatever entry is at a place.
+    pub(crate) fn pin_at(&self, place: u32) -> LruFound
+        ensures { IsLookup result }
+    {
+        match self.entries.hold_at(place) {
+            Ok(Some(value)) => LruFound::of(code::HIT, value, place),
+            Ok(None) => LruFound::bare(code::MISSED),
+            Err(_) => LruFound::bare(code::OVERFLOW),
+        }
+    }
+
+    // Gives back a pin of the entry at a place.
+    #[inline(always)]
+    pub(crate) fn unpin(&self, place: u32) -> u32
+        ensures { IsRelease result }
+    {
+        match self.entries.end_hold(place) {
+            Some(Released::Invalidated) => code::LAST,
+            Some(_) => code::DONE,
+            None => code::STALE,
+        }
+    }
+}
+
+// Returns the answer of a lookup with this result, whose one refusal is `Overflow`.
+#[inline(always)]
+pub(crate) fn told_of_lookup(found: Result<Option<(u32, u64)>, Refusal>) -> LruFound
+    ensures { IsLookup result }
+{
+    match found {
+        Ok(Some((place, value))) => LruFound::of(code::HIT, value, place),
+        Ok(None) => LruFound::bare(code::MISSED),
+        Err(_) => LruFound::bare(code::OVERFLOW),
+    }
+}

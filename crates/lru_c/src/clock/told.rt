@@ -1,0 +1,54 @@
+//! What the calls on a clock return to C.
+ghost use Rattle.std.specs.Prelude.{◌≡◌};
+ghost use Rattle.lru_c.specs.Clocks.{bare_found, found};
+ghost use Rattle.lru_c.specs.Codes as codes;
+
+use crate::code;
+
+/// What a lookup returns, in two registers: a code, and what goes with it.
+#[repr(C)]
+#[derive(Clone, Copy, PartialEq, Eq)]
+pub struct LruFound {
+    /// The value, the ticket of a making, or the number that was asked for.
+    pub value: u64,
+    /// One of the codes of `code`.
+    pub code: u32,
+    /// The place of the entry that the caller has pinned.
+    pub place: u32,
+}
+
+impl LruFound {
+    // Returns an answer that names an entry.
+    #[inline(always)]
+    pub(crate) fn of(code: u32, value: u64, place: u32) -> LruFound
+        ensures { result ≡ found code value place }
+    {
+        LruFound { value, code, place }
+    }
+
+    // Returns an answer that is a code alone.
+    pub(crate) fn bare(code: u32) -> LruFound
+        ensures { result ≡ bare_found code }
+    {
+        LruFound::of(code, 0, 0)
+    }
+
+    // Returns a number.
+    pub(crate) fn number(value: u64) -> LruFound
+        ensures { result ≡ found codes.number value 0 }
+    {
+        LruFound::of(code::NUMBER, value, 0)
+    }
+}
+
+/// An entry that left a clock.
+#[repr(C)]
+#[derive(Clone, Copy, PartialEq, Eq)]
+pub struct LruLeft {
+    /// The first word of its key.
+    pub first: u64,
+    /// The second word of its key.
+    pub second: u64,
+    /// The value.
+    pub value: u64,
+}
