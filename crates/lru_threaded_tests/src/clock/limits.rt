@@ -171,10 +171,17 @@ fn no_shard_is_left_out(rt: HostRuntime) {
 // Makes key 1 with the charge 3, and invalidates it meanwhile; then makes it again with the charge
 // 1. Returns what is read of both, whether the key has a value before the second, and the total
 // while both are held and once the first is dropped.
-fn invalidates_in_a_making<R: Wait>(cache: &Clock<u64, R>) -> Option<([u64; 2], bool, [u128; 2])> {
+fn invalidates_in_a_making<R: Wait>(
+    cache: &Clock<u64, R>,
+    is_since: bool,
+) -> Option<([u64; 2], bool, [u128; 2])> {
     let first = cache
         .get_or_init(1, 3, |key| {
-            cache.invalidate(key);
+            if is_since {
+                cache.invalidate_since(key, &mut cache.past(key));
+            } else {
+                cache.invalidate(key);
+            }
             5
         })
         .ok()?;
@@ -187,15 +194,21 @@ fn invalidates_in_a_making<R: Wait>(cache: &Clock<u64, R>) -> Option<([u64; 2], 
 }
 
 // Does this in a new cache.
-fn invalidates_in_new<R: Wait + Drop>(alloc: Global, rt: R) -> Option<([u64; 2], bool, [u128; 2])> {
+fn invalidates_in_new<R: Wait + Drop>(
+    alloc: Global,
+    rt: R,
+    is_since: bool,
+) -> Option<([u64; 2], bool, [u128; 2])> {
     let cache: Clock<u64, R> = clock_with_shards(alloc, rt, 10, 2)?;
-    invalidates_in_a_making(&cache)
+    invalidates_in_a_making(&cache, is_since)
 }
 
 #[test]
 fn an_invalidated_making_is_for_its_maker_alone(rt: HostRuntime) {
-    let told = invalidates_in_new(rt.alloc(), &rt);
-    assert_equal(&rt, told, Some(([5, 6], false, [4, 1])));
+    for is_since in [false, true] {
+        let told = invalidates_in_new(rt.alloc(), &rt, is_since);
+        assert_equal(&rt, told, Some(([5, 6], false, [4, 1])));
+    }
 }
 
 // Returns the capacities of a cache of 16 shards and of one of three, whose shares are rounded up.

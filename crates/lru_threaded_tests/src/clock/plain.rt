@@ -1,5 +1,8 @@
 //! A plain clock cache of one owner: a list of places that is scanned at each call. It shares no
 //! code with the cache, and does what `docs/DEFINITIONS.md` says of the clock.
+//!
+//! Nothing is kept that can be counted: which entries are on trial is said by the entries, and
+//! their charges and the ghosts of each part are summed up when they are asked for.
 
 use crate::seeded::player::SLOTS;
 use crate::seeded::said::Said;
@@ -7,6 +10,7 @@ use crate::threaded::{Then, ThreadedCall};
 use lru_clock::clock::Counts;
 use lru_support::tables::{Answers, text_of};
 use std::alloc::{AllocError, Global};
+use std::hash::BuildHasher;
 use std::mem;
 
 // An entry of the plain cache. Its value is a number.
@@ -18,29 +22,53 @@ struct Entry {
     chances: u64,
     pins: u64,
     is_found: bool,
+    is_on_trial: bool,
+}
+
+// The upper 30 bits of the tag of a key whose entry left, and whether it was on trial.
+#[derive(Clone, Copy, PartialEq, Eq)]
+struct Ghost {
+    tag: u32,
+    was_on_trial: bool,
 }
 
 /// A plain clock cache, the places of the pins that are held in slots, and the numbers of the
 /// values that the last call dropped, in order.
 #[derive(Drop)]
-pub(crate) struct Plain {
+pub(crate) struct Plain<S: BuildHasher> {
+    hasher: S,
     capacity: u64,
     places: Vec<Option<Entry>>,
     vacant: Vec<usize>,
     hand: usize,
+    sweep: usize,
+    border: u64,
+    ghosts: Vec<Option<Ghost>>,
+    // The number of slots of all pages.
+    room: usize,
+    pages: u32,
+    // The places that an entry of the main part left last.
+    young: Vec<bool>,
     pins: [Option<usize>; SLOTS],
     dropped: Vec<u64>,
     counts: Counts,
 }
 
-impl Plain {
+impl<S: BuildHasher + Drop> Plain<S> {
     /// Creates an empty cache.
-    pub(crate) fn new(alloc: Global, capacity: u64) -> Plain {
+    pub(crate) fn new(alloc: Global, capacity: u64, hasher: S) -> Self {
         Plain {
+            hasher,
             capacity,
             places: Vec::new(alloc),
             vacant: Vec::new(alloc),
             hand: 0,
+            sweep: 0,
+            border: capacity / 8,
+            ghosts: Vec::new(alloc),
+            room: 0,
+            pages: 0,
+            young: Vec::new(alloc),
             pins: [None; SLOTS],
             dropped: Vec::new(alloc),
             counts: Counts::default(),
@@ -97,23 +125,114 @@ impl Plain {
         self.total().wrapping_add(charge) > self.capacity
     }
 
+    // Returns the tag of a key, and where its ghost may be.
+    fn home(&self, key: u64) -> (u32, usize) {
+        let tag = (self.hasher.hash_one(&key) >> 32) as u32;
+        (
+            tag / 4,
+            (tag as usize).checked_rem(self.ghosts.len()).unwrap_or(0),
+        )
+    }
+
+    // Returns the number of ghosts that left the trial part, or the main part.
+    fn ghosts_of(&self, was_on_trial: bool) -> u64 {
+        let mut count = 0u64;
+        for it in self.ghosts.iter().flatten() {
+            if it.was_on_trial == was_on_trial {
+                count = count.wrapping_add(1);
+            }
+        }
+        count
+    }
+
+    // Returns the sum of the charges on trial.
+    fn on_trial(&self) -> u64 {
+        let mut total = 0u64;
+        for entry in self.places.iter().flatten() {
+            if entry.is_on_trial {
+                total = total.wrapping_add(entry.charge);
+            }
+        }
+        total
+    }
+
     fn leave(&mut self, place: usize, entry: Entry) -> Result<(), AllocError> {
         self.set(place, None);
+        self.set_young(place, !entry.is_on_trial);
         self.vacant.push(place)?;
         self.counts.evictions = self.counts.evictions.wrapping_add(1);
         self.dropped.push(entry.number)?;
         Ok(())
     }
 
+    fn set_young(&mut self, place: usize, is_young: bool) {
+        if let Some(at) = self.young.get_mut(place) {
+            *at = is_young;
+        }
+    }
+
+    // An entry leaves to make room, and leaves a ghost.
+    fn leave_ghost(&mut self, place: usize, entry: Entry) -> Result<(), AllocError> {
+        if entry.is_found {
+            let (tag, home) = self.home(entry.key);
+            let was_on_trial = entry.is_on_trial;
+            if let Some(at) = self.ghosts.get_mut(home) {
+                *at = Some(Ghost { tag, was_on_trial });
+            }
+        }
+        self.leave(place, entry)
+    }
+
+    // Returns the next place that is on trial.
+    fn next_on_trial(&self) -> Option<(usize, Entry)> {
+        for step in 0..self.places.len() {
+            let at = self.sweep.wrapping_add(step);
+            let place = at.checked_rem(self.places.len())?;
+            if let Some(entry) = self.entry(place) {
+                if entry.is_on_trial {
+                    return Some((place, entry));
+                }
+            }
+        }
+        None
+    }
+
+    // The second hand comes to the next place on trial. Returns whether its entry left.
+    fn try_next(&mut self) -> Result<bool, AllocError> {
+        let Some((place, entry)) = self.next_on_trial() else {
+            return Ok(false);
+        };
+        self.sweep = place.wrapping_add(1);
+        if self.young.get(place) == Some(&true) {
+            self.set_young(place, false);
+            return Ok(false);
+        }
+        if entry.pins == 0 && entry.chances == 0 {
+            self.leave_ghost(place, entry)?;
+            return Ok(true);
+        }
+        let chances = if entry.pins == 0 { 0 } else { entry.chances };
+        let is_on_trial = false;
+        self.set(
+            place,
+            Some(Entry {
+                is_on_trial,
+                chances,
+                ..entry
+            }),
+        );
+        Ok(false)
+    }
+
     // The hand comes to one place. Returns whether an entry left.
-    fn pass(&mut self) -> Result<bool, AllocError> {
+    fn pass(&mut self, is_main_only: bool) -> Result<bool, AllocError> {
         let place = self.hand;
         let next = place.wrapping_add(1);
         self.hand = if next < self.places.len() { next } else { 0 };
         let Some(entry) = self.entry(place) else {
             return Ok(false);
         };
-        if entry.pins > 0 {
+        if entry.pins > 0 || (is_main_only && entry.is_on_trial) {
             return Ok(false);
         }
         if entry.chances > 0 {
@@ -121,15 +240,26 @@ impl Plain {
             self.set(place, Some(Entry { chances, ..entry }));
             return Ok(false);
         }
-        self.leave(place, entry)?;
+        self.leave_ghost(place, entry)?;
         Ok(true)
     }
 
-    // Returns whether an entry left within four rounds.
+    // Returns whether an entry left: one on trial, or one of the main part, or any.
     fn evict(&mut self) -> Result<bool, AllocError> {
-        for _ in 0..self.places.len().wrapping_mul(4) {
-            if self.pass()? {
+        for _ in 0..self.places.len().wrapping_mul(2) {
+            let on_trial = self.on_trial();
+            if on_trial == 0 || on_trial < self.border {
+                break;
+            }
+            if self.try_next()? {
                 return Ok(true);
+            }
+        }
+        for is_main_only in [true, false] {
+            for _ in 0..self.places.len().wrapping_mul(4) {
+                if self.pass(is_main_only)? {
+                    return Ok(true);
+                }
             }
         }
         Ok(false)
@@ -144,10 +274,60 @@ impl Plain {
         Ok(())
     }
 
+    // Makes room once more if the total is above the capacity now and was not before the call. Then
+    // all entries are pinned, so those on trial pass it.
+    fn settle(&mut self, was_above: bool) -> Result<(), AllocError> {
+        if !was_above {
+            self.make_room(0)?;
+        }
+        Ok(())
+    }
+
     fn add_place(&mut self) -> Result<(), AllocError> {
+        if self.places.len() >= self.room {
+            self.add_page()?;
+        }
         self.vacant.push(self.places.len())?;
         self.places.push(None)?;
+        self.young.push(false)?;
         Ok(())
+    }
+
+    // Adds a page of slots, 64 in each of the first eight, and half as many ghosts.
+    fn add_page(&mut self) -> Result<(), AllocError> {
+        let sizes = self.pages / 8;
+        let slots = 64usize.wrapping_shl(sizes);
+        self.pages = self.pages.wrapping_add(1);
+        self.room = self.room.wrapping_add(slots);
+        for _ in 0..slots / 2 {
+            self.ghosts.push(None)?;
+        }
+        Ok(())
+    }
+
+    // An entry comes, and skips the trial if its key has a ghost. Returns whether it is on trial.
+    fn come(&mut self, key: u64, charge: u64) -> bool {
+        let (tag, home) = self.home(key);
+        let Some(Some(found)) = self.ghosts.get(home).copied() else {
+            return true;
+        };
+        if found.tag != tag {
+            return true;
+        }
+        let own = self.ghosts_of(found.was_on_trial);
+        let other = self.ghosts_of(!found.was_on_trial);
+        let nearest = other.wrapping_mul(2).wrapping_add(own).wrapping_add(2);
+        let ratio = nearest.checked_div(own.wrapping_mul(2)).unwrap_or(0).max(1);
+        let step = charge.wrapping_mul(ratio);
+        self.border = if found.was_on_trial {
+            self.border.wrapping_add(step).min(self.capacity / 2)
+        } else {
+            self.border.saturating_sub(step).max(self.capacity / 64)
+        };
+        if let Some(at) = self.ghosts.get_mut(home) {
+            *at = None;
+        }
+        false
     }
 
     fn add_vacant_place(&mut self) -> Result<(), AllocError> {
@@ -160,6 +340,7 @@ impl Plain {
     fn store(&mut self, key: u64, charge: u64, number: u64) -> Result<usize, AllocError> {
         self.add_vacant_place()?;
         let place = self.vacant.pop().unwrap_or(0);
+        let is_on_trial = self.come(key, charge);
         self.set(
             place,
             Some(Entry {
@@ -169,6 +350,7 @@ impl Plain {
                 chances: 0,
                 pins: 1,
                 is_found: true,
+                is_on_trial,
             }),
         );
         Ok(place)
@@ -206,8 +388,10 @@ impl Plain {
             self.keep(place, then)?;
             return Ok(Said::Found(found));
         }
+        let was_above = self.is_above(0);
         self.make_room(charge)?;
         let place = self.store(key, charge, number)?;
+        self.settle(was_above)?;
         self.counts.makings = self.counts.makings.wrapping_add(1);
         self.keep(place, then)?;
         Ok(Said::Made(key, number))
@@ -232,10 +416,12 @@ impl Plain {
         number: u64,
         then: Then,
     ) -> Result<Said, AllocError> {
+        let was_above = self.is_above(0);
         self.add_vacant_place()?;
         self.invalidate(key)?;
         self.make_room(charge)?;
         let place = self.store(key, charge, number)?;
+        self.settle(was_above)?;
         self.counts.insertions = self.counts.insertions.wrapping_add(1);
         self.keep(place, then)?;
         Ok(Said::Put(number))
@@ -355,7 +541,10 @@ impl Plain {
             ThreadedCall::Prune => self.prune(),
             ThreadedCall::Reserve(places) => self.reserve(places),
             ThreadedCall::SetCapacity(capacity) => {
+                let was_above = self.is_above(0);
                 self.capacity = capacity;
+                self.border = capacity / 8;
+                self.settle(was_above)?;
                 self.make_room(0)
             }
             _ => Ok(()),
@@ -364,7 +553,7 @@ impl Plain {
 }
 
 // Answers as a player of the cache does.
-impl Answers<ThreadedCall> for Plain {
+impl<S: BuildHasher + Drop> Answers<ThreadedCall> for Plain<S> {
     fn answer(&mut self, alloc: Global, call: ThreadedCall) -> Result<String, AllocError> {
         if let ThreadedCall::View = call {
             let (capacity, total, len) = (self.capacity, self.total(), self.len());

@@ -11,7 +11,7 @@ use lru_support::drops::{DropLog, Logged};
 use lru_support::hashers::ByOwnNumber;
 use lru_support::tables::text_of;
 use std::alloc::{AllocError, Global};
-use std::hash::BuildHasher;
+use std::hash::{BuildHasher, BuildHasherDefault, FoldHasher};
 use std::sync::Wait;
 use std::test::Fail;
 
@@ -29,31 +29,42 @@ impl<'a, R: Wait + Drop, S: BuildHasher> Viewed<Logged<R>> for &'a Cache<u64, Lo
     fn set_strict(self, _is_strict: bool) {}
 }
 
-// Makes a seed's calls on a cache of one shard.
-fn agrees<R: Wait + Clone + Drop>(rt: &R, alloc: Global, seed: u64) -> Result<(), Fail> {
+// Makes a seed's calls on a cache of one shard, whose hasher is given twice.
+fn agrees<R: Wait + Clone + Drop, S: BuildHasher + Drop>(
+    rt: &R,
+    alloc: Global,
+    seed: u64,
+    hasher: S,
+    same: S,
+) -> Result<(), Fail> {
     let capacity = seed.saturating_mul(5);
     let log = DropLog::new(alloc, rt)?;
-    let cache: Cache<u64, Logged<R>, R, ByOwnNumber> = Cache::with_shards_hasher(
+    let cache: Cache<u64, Logged<R>, R, S> = Cache::with_shards_hasher(
         alloc,
         rt.clone()?,
         capacity,
         1,
-        ByOwnNumber,
+        hasher,
     )?;
     let mut player = Player::new(alloc, &cache, &log)?;
-    agree(
-        alloc,
-        seed,
-        false,
-        &mut player,
-        &mut Plain::new(alloc, capacity),
-    )
+    let mut plain = Plain::new(alloc, capacity, same);
+    agree(alloc, seed, false, &mut player, &mut plain)
 }
 
 #[test]
 fn one_thread_is_answered_as_by_a_plain_clock(rt: HostRuntime) -> Result<(), Fail> {
     for seed in 0..5u64 {
-        agrees(&rt, rt.alloc(), seed)?;
+        let hasher: BuildHasherDefault<FoldHasher> = BuildHasherDefault::new();
+        agrees(&rt, rt.alloc(), seed, hasher, BuildHasherDefault::new())?;
+    }
+    Ok(())
+}
+
+// The tags of all keys have the same upper 30 bits, so each ghost may be found by another key.
+#[test]
+fn ghosts_of_other_keys_change_no_answer(rt: HostRuntime) -> Result<(), Fail> {
+    for seed in 5..10u64 {
+        agrees(&rt, rt.alloc(), seed, ByOwnNumber, ByOwnNumber)?;
     }
     Ok(())
 }
