@@ -17,10 +17,10 @@
  * If a key has no value, one caller is told LRU_MAKE: it makes the value and passes it to `ready`,
  * or gives up with `fail`. Callers that ask for the same key in the meantime are told LRU_WAIT.
  * They have a pin already, and ask again with `poll` after that `ready` or `fail`. The library does
- * not wake them: threads that wait need, for example, a condition variable. If threads wait there
- * for several keys, notify all of them, but only if somebody waits for this one: after a `fail`
- * that is told LRU_LEFT, and after a `ready` of an entry that then has more than one pin, as
- * lru_cache_entry tells under the same lock.
+ * not wake them: lru_threads.h does, with POSIX threads. With another means, such as a condition
+ * variable of your own at which threads wait for several keys, wake all of them, but only if
+ * somebody waits for this one: after a `fail` that is told LRU_LEFT, and after a `ready` of an
+ * entry that then has more than one pin, as lru_cache_entry tells under the same lock.
  *
  * The keys of a cache are of one of two kinds, which it is opened with: LRU_BYTES or LRU_WORDS. The
  * calls that take a key are there for each kind; all others are the same:
@@ -29,11 +29,13 @@
  *     lru_words_*   keys are 16 bytes, passed as two words, and faster to look up
  *     lru_cache_*   calls on a cache that take no key
  *     lru_chain_*   calls on a chain, which takes entries of any cache
+ *     lru_clock_*   calls on a clock, another cache: a hit in it takes no lock (THE CLOCK, below)
+ *     lru_reader_*  calls of a thread on a clock, without the lock
  *
  * The library is proved: each call is one step of the cache that docs/DEFINITIONS.md in the sources
  * defines, or is refused with a code and changes nothing. The library takes no lock and starts no
- * thread. The archive is for Linux with glibc, and also links into a shared object. Programs that
- * share a cache among threads are compiled and linked with -pthread.
+ * thread; lru_threads.h adds locks. The archive is for Linux with glibc or musl. Link it into a
+ * shared object with -Wl,--whole-archive, or there is nothing in it; liblru.so.1 is one.
  *
  * WHAT THE CALLER MUST ENSURE. The proofs rely on the following, and it is not checked at run time:
  *
@@ -123,28 +125,39 @@
 
 #define LRU_VERSION "1.0.0"
 
+/* How functions are declared that the header defines. In the shared library they are exported. */
+#ifndef LRU_INLINE
+#define LRU_INLINE static inline
+#endif
+
 #ifdef __cplusplus
 extern "C" {
 #endif
 
-/* The result of a call. After a code of 7 or more, except LRU_NUMBER and LRU_PINNED, nothing has
- * changed: no entry was added, moved, pinned or evicted, and nothing was put into a chain. */
+/* The result of a call. After a refusal nothing has changed: no entry was added, moved, pinned or
+ * evicted, and nothing was put into a chain. There is one exception: where lru_clock_ready has no
+ * memory, or a number would overflow, the making has ended. */
 typedef uint32_t lru_code;
 
 enum {
     /* Answers. */
-    LRU_MAKE = 0,    /* pinned; the caller makes the value now, then calls ready or fail */
-    LRU_WAIT = 1,    /* pinned; another caller makes the value: ask again with poll */
+    LRU_MAKE = 0,    /* pinned; the caller makes the value now, then calls ready or fail. Clock:
+                        not pinned; the ticket is told */
+    LRU_WAIT = 1,    /* pinned; another caller makes the value: ask again with poll. Clock: not
+                        pinned; ask again with begin */
     LRU_HIT = 2,     /* pinned; the value is told */
     LRU_DONE = 3,    /* done */
     LRU_LEFT = 4,    /* fail: others wait; the next poll or begin for the entry is told LRU_MAKE */
     LRU_REMOVED = 5, /* fail: nobody waits, and the entry is gone */
     LRU_MISSED = 6,  /* get, contains: the key has no entry, or its value is still being made */
     LRU_PINNED = 18, /* repin: pinned once more; the value is told */
+    LRU_GONE = 22,   /* clock: an entry has left, and is told; call again for the next */
+    LRU_LAST = 23,   /* reader: done; the entry was invalidated, and this was its last pin: collect
+                        it, under the lock */
 
     /* Refusals of the cache. */
     LRU_OVERFLOW = 7, /* a number would overflow: the total of charges, the stamps or the pins */
-    LRU_STALE = 8,    /* the pin names no entry that the call is for */
+    LRU_STALE = 8,    /* the pin names no entry that the call is for, or the ticket no making */
     LRU_MEMORY = 9,   /* malloc or realloc returned null */
     LRU_FULL = 20,    /* a strict begin or insert: the charge and those of the held entries add up
                          to more than the capacity */
@@ -157,7 +170,8 @@ enum {
     LRU_NULL_KEY = 13,  /* a null key with a length above 0 */
     LRU_CLOSED = 14,    /* the cache or the chain is not open */
     LRU_OPEN = 15,      /* new: the handle is open already */
-    LRU_NOT_EMPTY = 16, /* the chain still holds entries: pop them first */
+    LRU_NOT_EMPTY = 16, /* the chain still holds entries: pop them first; or the clock still has
+                           entries: prune it first; or a making of the clock has not ended */
     LRU_NO_ROOM = 17,   /* key_of, entries: the buffer is too small; how much room is enough is told
                            as the value */
     LRU_OTHER_KEYS = 19, /* lru_bytes_* or lru_words_*: the cache has keys of the other kind */
@@ -251,6 +265,31 @@ typedef struct lru_chain {
     uint64_t open;
 } lru_chain;
 
+/* The clock, a reader of it, and what their calls tell; see THE CLOCK, below. */
+typedef struct lru_clock {
+    void *at;
+    uint64_t open;
+} lru_clock;
+
+typedef struct lru_reader {
+    void *at;
+    uint64_t open;
+} lru_reader;
+
+typedef struct lru_found {
+    uint64_t value; /* LRU_HIT, and LRU_DONE of add and ready: the value. LRU_MAKE: the ticket.
+                       LRU_NUMBER: the number. */
+    lru_code code;
+    uint32_t place; /* LRU_HIT, and LRU_DONE of add and ready: names the pin */
+} lru_found;
+
+/* An entry that left a clock. */
+typedef struct lru_left {
+    uint64_t first; /* the two words of its key */
+    uint64_t second;
+    uint64_t value; /* the caller's again, to be deleted */
+} lru_left;
+
 /* ------------------------------------------------------------------------------- opening caches */
 
 /* Opens an empty cache whose keys are of the kind `keys`. It evicts idle entries while the total of
@@ -280,11 +319,11 @@ lru_code lru_cache_new_with_limits(lru_kind keys, uint64_t capacity, uint64_t fi
  * cache, and answers with some number for a null key. Programs must not store it: it may change
  * with the version of this header and with the machine. The last bytes are not mixed with the
  * others, as a cache does that: for other uses take lru_shard_of. */
-static inline uint64_t lru_hash_bytes(const void *key, size_t length, uint64_t seed);
+LRU_INLINE uint64_t lru_hash_bytes(const void *key, size_t length, uint64_t seed);
 
 /* Which of `count` caches a hash chooses, for programs that spread their keys over several: a
  * number from 0 to count - 1. */
-static inline uint64_t lru_shard_of(uint64_t hash, uint64_t count);
+LRU_INLINE uint64_t lru_shard_of(uint64_t hash, uint64_t count);
 
 /* Asks for the value of a key and pins its entry, or adds an entry if there is none. `charge`,
  * above 0, is the charge of a new entry; an entry that exists keeps its charge, even if its maker
@@ -301,31 +340,31 @@ static inline uint64_t lru_shard_of(uint64_t hash, uint64_t count);
  * 2^64 - 1, if the stamps are used up or if the entry has as many pins as it may have; LRU_FULL if
  * the call is strict and there is no room; LRU_MEMORY; LRU_NO_CHARGE if `charge` is 0, even if the
  * key has an entry; LRU_NULL_KEY; LRU_CLOSED; LRU_NOT_EMPTY. */
-static inline lru_told lru_bytes_begin(lru_cache *cache, const void *key, size_t length,
-                                       uint64_t hash, uint64_t charge, bool strict,
-                                       lru_chain *gone);
+LRU_INLINE lru_told lru_bytes_begin(lru_cache *cache, const void *key, size_t length,
+                                    uint64_t hash, uint64_t charge, bool strict,
+                                    lru_chain *gone);
 
 /* Finds the value of a key and pins its entry. Adds no entry if there is none.
  *
  * Allocates if the key is longer than any before. LRU_HIT with the pin and the value; LRU_MISSED;
  * LRU_OVERFLOW if the entry has as many pins as it may have; LRU_MEMORY; LRU_NULL_KEY;
  * LRU_CLOSED. */
-static inline lru_told lru_bytes_get(lru_cache *cache, const void *key, size_t length,
-                                     uint64_t hash);
+LRU_INLINE lru_told lru_bytes_get(lru_cache *cache, const void *key, size_t length,
+                                  uint64_t hash);
 
 /* Whether a key has a value that `get` would find. Pins nothing and does not change the order.
  *
  * Allocates if the key is longer than any before. LRU_DONE if it has one; LRU_MISSED; LRU_MEMORY;
  * LRU_NULL_KEY; LRU_CLOSED. */
-static inline lru_code lru_bytes_contains(lru_cache *cache, const void *key, size_t length,
-                                          uint64_t hash);
+LRU_INLINE lru_code lru_bytes_contains(lru_cache *cache, const void *key, size_t length,
+                                       uint64_t hash);
 
 /* Evicts the entry of a key into `gone` if it is idle. Otherwise nothing happens, now or later.
  *
  * Allocates if the key is longer than any before. LRU_DONE in either case; LRU_MEMORY;
  * LRU_NULL_KEY; LRU_CLOSED; LRU_NOT_EMPTY. */
-static inline lru_code lru_bytes_advice_evict(lru_cache *cache, const void *key, size_t length,
-                                              uint64_t hash, lru_chain *gone);
+LRU_INLINE lru_code lru_bytes_advice_evict(lru_cache *cache, const void *key, size_t length,
+                                           uint64_t hash, lru_chain *gone);
 
 /* Detaches the entry of a key, so that no call finds it by the key: the next `begin` adds a new
  * one. An idle entry is evicted into `gone`. A held one, with or without a value, is still found by
@@ -334,8 +373,8 @@ static inline lru_code lru_bytes_advice_evict(lru_cache *cache, const void *key,
  *
  * Allocates if the key is longer than any before. LRU_DONE in each case; LRU_MEMORY; LRU_NULL_KEY;
  * LRU_CLOSED; LRU_NOT_EMPTY. */
-static inline lru_code lru_bytes_invalidate(lru_cache *cache, const void *key, size_t length,
-                                            uint64_t hash, lru_chain *gone);
+LRU_INLINE lru_code lru_bytes_invalidate(lru_cache *cache, const void *key, size_t length,
+                                         uint64_t hash, lru_chain *gone);
 
 /* Gives a key a value, whatever it had before: detaches the entry of the key as `invalidate` does,
  * and adds a new one with this value and this charge, which is above 0. The caller has a pin of it,
@@ -351,16 +390,16 @@ static inline lru_code lru_bytes_invalidate(lru_cache *cache, const void *key, s
  * LRU_FULL if the call is strict and there is no room; LRU_MEMORY; LRU_NO_CHARGE if `charge` is 0;
  * LRU_NULL_KEY; LRU_CLOSED; LRU_NOT_EMPTY. After a refusal the key keeps its entry, and the value
  * still belongs to the caller. */
-static inline lru_told lru_bytes_insert(lru_cache *cache, const void *key, size_t length,
-                                        uint64_t hash, uint64_t charge, uint64_t value, bool strict,
-                                        lru_chain *gone);
+LRU_INLINE lru_told lru_bytes_insert(lru_cache *cache, const void *key, size_t length,
+                                     uint64_t hash, uint64_t charge, uint64_t value, bool strict,
+                                     lru_chain *gone);
 
 /* Copies the bytes of the key of an entry, held or idle, to the start of a buffer of `room` bytes.
  *
  * Does not allocate. LRU_NUMBER with the length of the key as the value; LRU_NO_ROOM with the
  * length of the key as the value if it is more than `room`; LRU_STALE if no entry has the stamp;
  * LRU_CLOSED. Nothing is written unless the code is LRU_NUMBER. */
-static inline lru_told lru_bytes_key_of(lru_cache *cache, lru_pin pin, void *buffer, size_t room);
+LRU_INLINE lru_told lru_bytes_key_of(lru_cache *cache, lru_pin pin, void *buffer, size_t room);
 
 /* ---------------------------------------------------------------------------- keys of two words */
 
@@ -371,10 +410,10 @@ lru_told lru_words_begin(lru_cache *cache, uint64_t first, uint64_t second, uint
                          bool strict, lru_chain *gone);
 lru_told lru_words_get(lru_cache *cache, uint64_t first, uint64_t second);
 lru_code lru_words_contains(lru_cache *cache, uint64_t first, uint64_t second);
-static inline lru_code lru_words_advice_evict(lru_cache *cache, uint64_t first, uint64_t second,
-                                              lru_chain *gone);
-static inline lru_code lru_words_invalidate(lru_cache *cache, uint64_t first, uint64_t second,
-                                            lru_chain *gone);
+LRU_INLINE lru_code lru_words_advice_evict(lru_cache *cache, uint64_t first, uint64_t second,
+                                           lru_chain *gone);
+LRU_INLINE lru_code lru_words_invalidate(lru_cache *cache, uint64_t first, uint64_t second,
+                                         lru_chain *gone);
 lru_told lru_words_insert(lru_cache *cache, uint64_t first, uint64_t second, uint64_t charge,
                           uint64_t value, bool strict, lru_chain *gone);
 
@@ -406,7 +445,7 @@ lru_told lru_cache_poll(lru_cache *cache, lru_pin pin);
  *
  * Does not allocate. LRU_DONE; LRU_STALE if no entry with the stamp has its value being made;
  * LRU_CLOSED. */
-static inline lru_code lru_cache_ready(lru_cache *cache, lru_pin pin, uint64_t value);
+LRU_INLINE lru_code lru_cache_ready(lru_cache *cache, lru_pin pin, uint64_t value);
 
 /* Gives up making a value, and gives back the pin.
  *
@@ -429,7 +468,7 @@ lru_told lru_cache_repin(lru_cache *cache, lru_pin pin);
  *
  * Does not allocate. LRU_DONE; LRU_STALE if no held entry with a value has the stamp; LRU_CLOSED;
  * LRU_NOT_EMPTY. */
-static inline lru_code lru_cache_release(lru_cache *cache, lru_pin pin, lru_chain *gone);
+LRU_INLINE lru_code lru_cache_release(lru_cache *cache, lru_pin pin, lru_chain *gone);
 
 /* Gives back one pin of an entry, as `release` does. But if it was the last, the entry is evicted
  * into `gone` at once, in place of becoming idle; no other entry is evicted. If the entry has more
@@ -493,7 +532,7 @@ lru_code lru_cache_entry(lru_cache *cache, lru_pin pin, lru_entry *out);
  * were at once. LRU_NUMBER with the number of entries written as the value; LRU_NO_ROOM, with the
  * number that lru_cache_len tells as the value, if more entries than `room` have a value: the
  * buffer then has some of them; LRU_CLOSED, and nothing is written. */
-static inline lru_told lru_cache_entries(lru_cache *cache, lru_entry *out, size_t room);
+LRU_INLINE lru_told lru_cache_entries(lru_cache *cache, lru_entry *out, size_t room);
 
 /* --------------------------------------------------------------------------------------- chains */
 
@@ -515,6 +554,225 @@ bool lru_chain_pop(lru_chain *chain, lru_gone *out);
 
 /* Whether no entry is left, or the chain is not open. Does not allocate. */
 bool lru_chain_is_empty(lru_chain *chain);
+
+/* ------------------------------------------------------------------------------------ the clock */
+
+/* THE CLOCK. A cache for threads whose hits take no lock. Its keys are two words, its values one.
+ * It does not evict in the exact order of the last uses: each entry has up to three chances, a hit
+ * adds one, and a hand that moves from entry to entry takes one away and evicts an entry that has
+ * none.
+ *
+ * A clock is one shard. The caller has a mutex for it, and as many clocks as it wants shards. Each
+ * thread has a reader of each clock. What may be called when:
+ *
+ *     lru_clock_*    under the mutex, as any call on a handle that threads share
+ *     lru_reader_*   without it, from the thread that has the reader; lru_reader_new is given the
+ *                    clock too, and so is called under the mutex
+ *
+ * A hit, the place of its pin, and how the pin is given back:
+ *
+ *     lru_found found = lru_reader_pin(&reader, hash, first, second);
+ *     if (found.code == LRU_HIT) {
+ *         use(found.value);
+ *         if (lru_reader_unpin(&reader, found.place) == LRU_LAST) {
+ *             pthread_mutex_lock(&mutex);
+ *             lru_code code = lru_clock_collect(&clock, found.place, &left);
+ *             pthread_mutex_unlock(&mutex);
+ *             if (code == LRU_GONE)
+ *                 delete_value(left.value);
+ *         }
+ *     }
+ *
+ * A miss makes the value, takes the mutex, makes room and adds. At most one entry leaves in a call:
+ *
+ *     while (lru_clock_make_room(&clock, charge, &left) == LRU_GONE)
+ *         keep(left);
+ *     found = lru_clock_add(&clock, hash, first, second, charge, value);
+ *
+ * and deletes what was kept once the mutex is released. If another thread has added the key
+ * meanwhile, it is told LRU_HIT with the other value, pinned, and its own was not taken.
+ *
+ * Threads that miss the same key at once can leave its value to one of them, the maker. It holds no
+ * mutex while it makes the value, and the others wait, here for a condition variable:
+ *
+ *     pthread_mutex_lock(&mutex);
+ *     found = lru_clock_begin(&clock, hash, first, second, charge);
+ *     while (found.code == LRU_WAIT) {
+ *         pthread_cond_wait(&ended, &mutex);
+ *         found = lru_clock_begin(&clock, hash, first, second, charge);
+ *     }
+ *     if (found.code == LRU_MAKE) {
+ *         uint64_t ticket = found.value, value;
+ *         pthread_mutex_unlock(&mutex);
+ *         bool is_made = make_value(first, second, &value);
+ *         pthread_mutex_lock(&mutex);
+ *         if (is_made) {
+ *             while (lru_clock_make_room(&clock, charge, &left) == LRU_GONE)
+ *                 keep(left);
+ *             found = lru_clock_ready(&clock, ticket, hash, charge, value);
+ *         } else {
+ *             lru_clock_fail(&clock, ticket);
+ *         }
+ *         pthread_cond_broadcast(&ended);
+ *     }
+ *     pthread_mutex_unlock(&mutex);
+ *
+ * After LRU_HIT and LRU_DONE it has a pin of the entry. Any thread that has the ticket may end the
+ * making. If the key is erased or added meanwhile, later callers make another value, or find the
+ * one that was added, and the maker's value is for itself alone: `ready` stores and pins it as any
+ * other, and giving that pin back is told LRU_LAST.
+ *
+ * A pin is named by the place of its entry, and the rules 7 and 8 above hold for it: it is given
+ * back once, with any reader of its clock. If it is given back twice, the second call is told
+ * LRU_STALE, or takes another holder's pin of the entry that is at the place by then, whose value
+ * may then be evicted.
+ *
+ * The hash is one of the program's choice, of the key alone. A clock uses its upper half; a program
+ * with several clocks chooses among them by the lower half. Keys whose upper halves are equal are
+ * told apart, but each look-up of such a key visits all of them.
+ *
+ * Less is proved of these calls than of the others: that a call on a handle that is not open
+ * changes nothing, that at most one entry leaves in a call, which tells it, that none leaves while
+ * its slot counts a pin, that no look-up under the mutex finds a key after it was erased, that
+ * nobody is told LRU_MAKE while a caller makes the value of the key, unless it was erased or added
+ * meanwhile, and that each ticket is accepted once. That a look-up counts its pin, that each value
+ * is told to leave once, and that nobody finds a value that was made for an erased key, is tested.
+ *
+ * Giving a pin back evicts nothing. If the pinned entries took the total above the capacity, the
+ * next make_room evicts down to it. */
+
+/* Opens an empty clock, whose entries are evicted while their total is above `capacity`. The caller
+ * frees it with lru_clock_free.
+ *
+ * Allocates. LRU_DONE; LRU_MEMORY; LRU_OPEN. */
+lru_code lru_clock_new(uint64_t capacity, lru_clock *out);
+
+/* Frees a clock without entries, and closes it: prune it first. What it shares with its readers is
+ * freed with the last of them.
+ *
+ * Does not allocate. LRU_DONE; LRU_NOT_EMPTY if it has entries, pinned or not, or a making has not
+ * ended; LRU_CLOSED. */
+lru_code lru_clock_free(lru_clock *clock);
+
+/* Opens a reader of a clock, for a thread. Readers may be opened and freed at any time.
+ *
+ * Allocates. LRU_DONE; LRU_MEMORY; LRU_OPEN; LRU_CLOSED if the clock is not open. */
+lru_code lru_reader_new(lru_clock *clock, lru_reader *out);
+
+/* Frees a reader, and closes it. Pins that were taken with it stay, and another reader may give
+ * them back. Needs no lock.
+ *
+ * Does not allocate. LRU_DONE; LRU_CLOSED. */
+lru_code lru_reader_free(lru_reader *reader);
+
+/* Pins the entry of a key. While another thread changes the clock, it may miss an entry that is
+ * there; lru_clock_find and lru_clock_add, under the mutex, miss none.
+ *
+ * Does not allocate. LRU_HIT with the value and the place; LRU_MISSED; LRU_OVERFLOW if the entry
+ * has as many pins as it may have, about a billion; LRU_CLOSED. */
+lru_found lru_reader_pin(lru_reader *reader, uint64_t hash, uint64_t first, uint64_t second);
+
+/* Pins whatever entry is at a place, even an invalidated one: for one more pin of a pinned entry,
+ * and to visit all entries, at the places below the number that lru_clock_places tells.
+ *
+ * Does not allocate. LRU_HIT with the value and the place; LRU_MISSED if there is none;
+ * LRU_OVERFLOW; LRU_CLOSED. */
+lru_found lru_reader_pin_at(lru_reader *reader, uint32_t place);
+
+/* Gives back a pin.
+ *
+ * Does not allocate. LRU_DONE; LRU_LAST, which also gives it back; LRU_STALE if no entry is at the
+ * place, or it has no pin; LRU_CLOSED. */
+lru_code lru_reader_unpin(lru_reader *reader, uint32_t place);
+
+/* Evicts one entry, if another charge would take the total above the capacity. Entries that are
+ * pinned stay.
+ *
+ * Does not allocate. LRU_GONE with the entry in `left`; LRU_DONE if no entry left; LRU_CLOSED. */
+lru_code lru_clock_make_room(lru_clock *clock, uint64_t charge, lru_left *left);
+
+/* Adds an entry and pins it; or pins the entry that the key has. Evicts nothing: the total may be
+ * above the capacity then, if too much is pinned. If a value is being made for the key, nobody
+ * waits for it any more: wake the threads that do.
+ *
+ * Allocates, unless the clock has had as many entries at once before. LRU_DONE with the value and
+ * the place; LRU_HIT with the value and the place of the key's entry: `value` was not taken;
+ * LRU_NO_CHARGE; LRU_MEMORY; LRU_OVERFLOW; LRU_CLOSED. */
+lru_found lru_clock_add(lru_clock *clock, uint64_t hash, uint64_t first, uint64_t second,
+                        uint64_t charge, uint64_t value);
+
+/* Pins the entry of a key; or begins the making of its value: the caller makes the value now, with
+ * or without the mutex, and then calls ready or fail with the ticket; or tells that another caller
+ * is making it: wait until a making of this clock has ended, and call again. Nothing wakes the
+ * threads that wait; a making may also end, for those that wait, with an erase or an add of the
+ * key. Evicts nothing. The charge is not kept: pass the one that is expected, or 1.
+ *
+ * Allocates, unless as many makings have gone on at once before. LRU_HIT with the value and the
+ * place; LRU_MAKE with the ticket as the value; LRU_WAIT; LRU_NO_CHARGE; LRU_MEMORY; LRU_OVERFLOW
+ * if the total would exceed 2^64 - 1, the key's entry has as many pins as it may have, or the clock
+ * has begun 2^64 - 1 makings; LRU_CLOSED. */
+lru_found lru_clock_begin(lru_clock *clock, uint64_t hash, uint64_t first, uint64_t second,
+                          uint64_t charge);
+
+/* Ends a making, adds an entry of its key with this value and pins it. The hash is that of begin;
+ * the charge may be another. Evicts nothing: make room first, as for add. If the key was erased or
+ * added meanwhile, the entry is invalidated already, and only this caller gets it: giving back its
+ * pin is told LRU_LAST.
+ *
+ * Allocates, unless the clock has had as many entries at once before. LRU_DONE with the value and
+ * the place; LRU_NO_CHARGE: the making goes on; LRU_STALE if no making has the ticket: it was never
+ * told, or the making has ended; LRU_MEMORY and LRU_OVERFLOW: the making has ended, as with fail;
+ * LRU_CLOSED. The value is taken with LRU_DONE only. */
+lru_found lru_clock_ready(lru_clock *clock, uint64_t ticket, uint64_t hash, uint64_t charge,
+                          uint64_t value);
+
+/* Ends a making that failed: the next begin for the key is told LRU_MAKE.
+ *
+ * Does not allocate. LRU_DONE; LRU_STALE if no making has the ticket; LRU_CLOSED. */
+lru_code lru_clock_fail(lru_clock *clock, uint64_t ticket);
+
+/* Pins the entry of a key, as lru_reader_pin does, and misses none.
+ *
+ * Does not allocate. As lru_reader_pin. */
+lru_found lru_clock_find(lru_clock *clock, uint64_t hash, uint64_t first, uint64_t second);
+
+/* Invalidates the entry of a key: no look-up that begins later finds it. If it is pinned, whoever
+ * gives back its last pin is told LRU_LAST; if that was a look-up of another key that compared this
+ * one, the entry leaves with a later make_room or prune. A value that is being made for the key is
+ * for its maker alone, and nobody waits for it any more: wake the threads that do.
+ *
+ * Does not allocate. LRU_GONE with the entry in `left`; LRU_DONE if the key has no entry or it is
+ * pinned; LRU_CLOSED. */
+lru_code lru_clock_erase(lru_clock *clock, uint64_t hash, uint64_t first, uint64_t second,
+                         lru_left *left);
+
+/* Takes out the entry at a place, after LRU_LAST.
+ *
+ * Does not allocate. LRU_GONE with the entry in `left`; LRU_DONE if no invalidated entry without
+ * pins is there: another call has taken it; LRU_CLOSED. */
+lru_code lru_clock_collect(lru_clock *clock, uint32_t place, lru_left *left);
+
+/* Evicts the first entry that is not pinned from the place `*next` on, and sets `*next` to its
+ * place. Begin with 0, and call until LRU_DONE.
+ *
+ * Does not allocate. LRU_GONE with the entry in `left`; LRU_DONE; LRU_CLOSED. */
+lru_code lru_clock_prune(lru_clock *clock, uint32_t *next, lru_left *left);
+
+/* Sets the capacity. Evicts nothing: call make_room with a charge of 0 until LRU_DONE.
+ *
+ * Does not allocate. LRU_DONE; LRU_CLOSED. */
+lru_code lru_clock_set_capacity(lru_clock *clock, uint64_t capacity);
+
+/* The total of the charges of all entries; the total of those that are pinned; the capacity; the
+ * number of all entries; and the number of places.
+ *
+ * These do not allocate. The pinned charge visits every place. LRU_NUMBER with the number as the
+ * value; LRU_CLOSED. */
+lru_found lru_clock_total(lru_clock *clock);
+lru_found lru_clock_pinned_charge(lru_clock *clock);
+lru_found lru_clock_capacity(lru_clock *clock);
+lru_found lru_clock_len(lru_clock *clock);
+lru_found lru_clock_places(lru_clock *clock);
 
 /* -------------------------------------------------------------- the functions behind some calls */
 
@@ -542,11 +800,11 @@ lru_code lru_cache_ready_at(lru_cache *cache, uint64_t stamp, uint64_t hash, siz
 lru_code lru_cache_release_at(lru_cache *cache, uint64_t stamp, uint64_t hash, size_t place,
                               lru_chain *gone);
 
-static inline lru_code lru_cache_ready(lru_cache *cache, lru_pin pin, uint64_t value) {
+LRU_INLINE lru_code lru_cache_ready(lru_cache *cache, lru_pin pin, uint64_t value) {
     return lru_cache_ready_at(cache, pin.stamp, pin.hash, pin.place, value);
 }
 
-static inline lru_code lru_cache_release(lru_cache *cache, lru_pin pin, lru_chain *gone) {
+LRU_INLINE lru_code lru_cache_release(lru_cache *cache, lru_pin pin, lru_chain *gone) {
     return lru_cache_release_at(cache, pin.stamp, pin.hash, pin.place, gone);
 }
 
@@ -555,23 +813,30 @@ static inline lru_code lru_cache_release(lru_cache *cache, lru_pin pin, lru_chai
 lru_code lru_words_evict(lru_cache *cache, uint64_t first, uint64_t second, bool even_held,
                          lru_chain *gone);
 
-static inline lru_code lru_words_advice_evict(lru_cache *cache, uint64_t first, uint64_t second,
-                                              lru_chain *gone) {
+LRU_INLINE lru_code lru_words_advice_evict(lru_cache *cache, uint64_t first, uint64_t second,
+                                           lru_chain *gone) {
     return lru_words_evict(cache, first, second, false, gone);
 }
 
-static inline lru_code lru_words_invalidate(lru_cache *cache, uint64_t first, uint64_t second,
-                                            lru_chain *gone) {
+LRU_INLINE lru_code lru_words_invalidate(lru_cache *cache, uint64_t first, uint64_t second,
+                                         lru_chain *gone) {
     return lru_words_evict(cache, first, second, true, gone);
 }
+
+/* In C++, casts of C are reported by -Wold-style-cast. */
+#ifdef __cplusplus
+#define LRU_CAST(type, value) static_cast<type>(value)
+#else
+#define LRU_CAST(type, value) ((type)(value))
+#endif
 
 /* Parts of the functions that hash; these names are internal. A product of two words, whose halves
  * are joined; and up to eight bytes as a word, by reads that may overlap. */
 __extension__ typedef unsigned __int128 lru_product;
 
 static inline uint64_t lru_hash_multiply(uint64_t a, uint64_t b) {
-    lru_product product = (lru_product)a * b;
-    return (uint64_t)product ^ (uint64_t)(product >> 64);
+    lru_product product = LRU_CAST(lru_product, a) * b;
+    return LRU_CAST(uint64_t, product) ^ LRU_CAST(uint64_t, product >> 64);
 }
 
 static inline uint64_t lru_hash_word(const uint8_t *at, size_t length) {
@@ -579,36 +844,39 @@ static inline uint64_t lru_hash_word(const uint8_t *at, size_t length) {
     if (length == 0)
         return 0;
     if (length < 4)
-        return at[0] | (uint64_t)at[length / 2] << 8 | (uint64_t)at[length - 1] << 16;
+        return at[0] | LRU_CAST(uint64_t, at[length / 2]) << 8 |
+               LRU_CAST(uint64_t, at[length - 1]) << 16;
     memcpy(&low, at, 4);
     memcpy(&high, at + length - 4, 4);
-    return low | (uint64_t)high << 32;
+    return low | LRU_CAST(uint64_t, high) << 32;
 }
 
 /* No factor is ever 0, so that without the seed nobody can tell which keys have hashes in common.
  * The last word is left to the multiplication of the cache, which spreads a series of keys, such as
  * the offsets of blocks, more evenly than two multiplications do. The first two numbers are not
  * those with which a cache begins, as equal seeds would cancel each other. */
-static inline uint64_t lru_hash_bytes(const void *key, size_t length, uint64_t seed) {
-    const uint8_t *at = (const uint8_t *)key;
+LRU_INLINE uint64_t lru_hash_bytes(const void *key, size_t length, uint64_t seed) {
+    const uint8_t *at = LRU_CAST(const uint8_t *, key);
     uint64_t hash;
     if (key == NULL)
         length = 0;
-    hash = lru_hash_multiply(0x13198a2e03707344 ^ seed, 0x94d049bb133111eb ^ 2 * (uint64_t)length);
+    hash = lru_hash_multiply(0x13198a2e03707344 ^ seed,
+                             0x94d049bb133111eb ^ 2 * LRU_CAST(uint64_t, length));
     for (; length > 8; at += 8, length -= 8)
         hash = lru_hash_multiply(hash ^ lru_hash_word(at, 8), 0x9e3779b97f4a7c05);
     return hash ^ lru_hash_word(at, length);
 }
 
-static inline uint64_t lru_shard_of(uint64_t hash, uint64_t count) {
-    return (uint64_t)((lru_product)lru_hash_multiply(hash, 0xbf58476d1ce4e5b9) * count >> 64);
+LRU_INLINE uint64_t lru_shard_of(uint64_t hash, uint64_t count) {
+    lru_product mixed = lru_hash_multiply(hash, 0xbf58476d1ce4e5b9);
+    return LRU_CAST(uint64_t, mixed * count >> 64);
 }
 
 /* The calls that also take a null pointer. These first three names are internal. */
 static const uint8_t lru_empty_key[1] = {0};
 
 static inline const uint8_t *lru_key_or_empty(const void *key) {
-    return key != NULL ? (const uint8_t *)key : lru_empty_key;
+    return key != NULL ? LRU_CAST(const uint8_t *, key) : lru_empty_key;
 }
 
 static inline lru_told lru_told_null_key(void) {
@@ -616,46 +884,46 @@ static inline lru_told lru_told_null_key(void) {
     return told;
 }
 
-static inline lru_told lru_bytes_begin(lru_cache *cache, const void *key, size_t length,
-                                       uint64_t hash, uint64_t charge, bool strict,
-                                       lru_chain *gone) {
+LRU_INLINE lru_told lru_bytes_begin(lru_cache *cache, const void *key, size_t length,
+                                    uint64_t hash, uint64_t charge, bool strict,
+                                    lru_chain *gone) {
     if (key == NULL && length > 0)
         return lru_told_null_key();
     return lru_bytes_begin_nonnull(cache, lru_key_or_empty(key), length, hash, charge, strict,
                                    gone);
 }
 
-static inline lru_told lru_bytes_get(lru_cache *cache, const void *key, size_t length,
-                                     uint64_t hash) {
+LRU_INLINE lru_told lru_bytes_get(lru_cache *cache, const void *key, size_t length,
+                                  uint64_t hash) {
     if (key == NULL && length > 0)
         return lru_told_null_key();
     return lru_bytes_get_nonnull(cache, lru_key_or_empty(key), length, hash);
 }
 
-static inline lru_code lru_bytes_contains(lru_cache *cache, const void *key, size_t length,
-                                          uint64_t hash) {
+LRU_INLINE lru_code lru_bytes_contains(lru_cache *cache, const void *key, size_t length,
+                                       uint64_t hash) {
     if (key == NULL && length > 0)
         return LRU_NULL_KEY;
     return lru_bytes_contains_nonnull(cache, lru_key_or_empty(key), length, hash);
 }
 
-static inline lru_code lru_bytes_advice_evict(lru_cache *cache, const void *key, size_t length,
-                                              uint64_t hash, lru_chain *gone) {
+LRU_INLINE lru_code lru_bytes_advice_evict(lru_cache *cache, const void *key, size_t length,
+                                           uint64_t hash, lru_chain *gone) {
     if (key == NULL && length > 0)
         return LRU_NULL_KEY;
     return lru_bytes_evict_nonnull(cache, lru_key_or_empty(key), length, hash, false, gone);
 }
 
-static inline lru_code lru_bytes_invalidate(lru_cache *cache, const void *key, size_t length,
-                                            uint64_t hash, lru_chain *gone) {
+LRU_INLINE lru_code lru_bytes_invalidate(lru_cache *cache, const void *key, size_t length,
+                                         uint64_t hash, lru_chain *gone) {
     if (key == NULL && length > 0)
         return LRU_NULL_KEY;
     return lru_bytes_evict_nonnull(cache, lru_key_or_empty(key), length, hash, true, gone);
 }
 
-static inline lru_told lru_bytes_insert(lru_cache *cache, const void *key, size_t length,
-                                        uint64_t hash, uint64_t charge, uint64_t value, bool strict,
-                                        lru_chain *gone) {
+LRU_INLINE lru_told lru_bytes_insert(lru_cache *cache, const void *key, size_t length,
+                                     uint64_t hash, uint64_t charge, uint64_t value, bool strict,
+                                     lru_chain *gone) {
     if (key == NULL && length > 0)
         return lru_told_null_key();
     return lru_bytes_insert_nonnull(cache, lru_key_or_empty(key), length, hash, charge, value,
@@ -663,19 +931,21 @@ static inline lru_told lru_bytes_insert(lru_cache *cache, const void *key, size_
 }
 
 /* A null buffer has no room. */
-static inline lru_told lru_bytes_key_of(lru_cache *cache, lru_pin pin, void *buffer, size_t room) {
+LRU_INLINE lru_told lru_bytes_key_of(lru_cache *cache, lru_pin pin, void *buffer, size_t room) {
     uint8_t none[1];
     if (buffer == NULL)
         return lru_bytes_key_of_nonnull(cache, pin, none, 0);
-    return lru_bytes_key_of_nonnull(cache, pin, (uint8_t *)buffer, room);
+    return lru_bytes_key_of_nonnull(cache, pin, LRU_CAST(uint8_t *, buffer), room);
 }
 
-static inline lru_told lru_cache_entries(lru_cache *cache, lru_entry *out, size_t room) {
+LRU_INLINE lru_told lru_cache_entries(lru_cache *cache, lru_entry *out, size_t room) {
     lru_entry none[1];
     if (out == NULL)
         return lru_cache_entries_nonnull(cache, none, 0);
     return lru_cache_entries_nonnull(cache, out, room);
 }
+
+#undef LRU_CAST
 
 #ifdef __cplusplus
 }

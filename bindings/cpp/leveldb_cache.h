@@ -6,6 +6,10 @@
 // LevelDB's block cache has keys of 16 bytes, and LevelDBBlockCache caches only such keys: it
 // stores them as two words, which is faster. LevelDBCache caches keys of any length.
 //
+// Among 100,000 entries, one of a LevelDBBlockCache takes 234 bytes of memory beside its value, one
+// of a LevelDBCache with a key of 20 bytes 297, and one of LevelDB's own with a key of 16 bytes
+// 107. They count only with the option charges_metadata.
+//
 // Like LevelDB's own cache it has 16 shards, each with a mutex, and both choose the same shard for
 // a key. As long as the entries that are pinned at one time fit into the capacity of their shard,
 // and none is erased or replaced while it is pinned, both caches hold the same entries. The
@@ -13,8 +17,8 @@
 //
 //  - If the capacity is below 256 KiB, there are fewer shards, so that each has a capacity of at
 //    least 16 KiB, which is room for a few blocks of LevelDB's usual size. If blocks are larger,
-//    pass the number that ShardsFor(capacity, options.block_size) returns, and if charges are not
-//    bytes, a number of your own. LevelDB's cache always has 16.
+//    pass options.block_size as the typical_charge, and if charges are not bytes, a number of
+//    shards of your own. LevelDB's cache always has 16.
 //  - Release evicts too. LevelDB's cache evicts only in Insert, so a shard whose pinned entries
 //    exceeded its capacity stays above it until the next Insert. Here a shard is above its capacity
 //    only while all of its entries are pinned. In particular, an entry larger than its shard's
@@ -25,7 +29,7 @@
 //    use. In LevelDB's cache it has no charge from then on.
 //  - With a capacity of 0 LevelDB's cache never finds an entry. Here an entry is found while it is
 //    pinned.
-//  - A charge of 0 counts as 1.
+//  - A charge of 0 counts as 1, without charges_metadata.
 //  - If there is no memory to cache an entry, or the total charge would overflow, Insert returns an
 //    entry that is not cached: Lookup does not find it, and its last Release deletes it. LevelDB's
 //    cache ends the process if an allocation fails; this one does so only if there is no memory for
@@ -95,20 +99,25 @@ class BasicLevelDBCache : public leveldb::Cache {
     return std::clamp<std::size_t>(blocks / 4, 1, kMostShards);
   }
 
-  // A cache with the given capacity, or null if there is no memory for it. `shards` is from 1 to
-  // 16; another number counts as the nearest of these. The seed is random unless a test passes its
-  // own.
-  static BasicLevelDBCache* New(std::size_t capacity) noexcept {
-    return New(capacity, ShardsFor(capacity));
+  // A cache with these options, or null if there is no memory for it. The seed is random unless a
+  // test passes its own.
+  static BasicLevelDBCache* New(const BlockCacheOptions& options) noexcept {
+    return New(options, Seed::random());
   }
-  static BasicLevelDBCache* New(std::size_t capacity, std::size_t shards) noexcept {
-    return New(capacity, shards, Seed::random());
-  }
-  static BasicLevelDBCache* New(std::size_t capacity, std::size_t shards, Seed seed) noexcept {
-    auto* cache = new (std::nothrow) BasicLevelDBCache(shards);
-    if (cache == nullptr || cache->shards_.Open(capacity, seed)) return cache;
+  static BasicLevelDBCache* New(const BlockCacheOptions& options, Seed seed) noexcept {
+    auto* cache = new (std::nothrow) BasicLevelDBCache(options);
+    if (cache == nullptr || cache->Open(options, seed)) return cache;
     delete cache;
     return nullptr;
+  }
+
+  // The same, with a capacity alone, or with a number of shards from 1 to 16; another number counts
+  // as the nearest of these.
+  static BasicLevelDBCache* New(std::size_t capacity) noexcept {
+    return New(BlockCacheOptions{capacity});
+  }
+  static BasicLevelDBCache* New(std::size_t capacity, std::size_t shards) noexcept {
+    return New(BlockCacheOptions{capacity, std::max<std::size_t>(shards, 1)});
   }
 
   BasicLevelDBCache(const BasicLevelDBCache&) = delete;
@@ -119,20 +128,21 @@ class BasicLevelDBCache : public leveldb::Cache {
 
   Handle* Insert(const leveldb::Slice& key, void* value, std::size_t charge,
                  void (*deleter)(const leveldb::Slice& key, void* value)) override {
-    Entry* entry = Entry::New(key, value, deleter);
+    Entry* entry = Entry::New(key, value, {deleter});
     // Insert has no way to report this.
     if (entry == nullptr) std::abort();
     if (!CanStore(key)) return reinterpret_cast<Handle*>(entry);
-    const std::uint64_t weight = charge == 0 ? 1 : charge;
+    const std::uint64_t weight =
+        std::max<std::size_t>(detail::SumOf(charge, Metadata(key.size())), 1);
     const auto hashed = Hashed(key);
-    Shard& shard = ShardOf(key);
-    entry->shard = &shard;
+    entry->shard = ShardOf(key);
+    Shard& shard = shards_[entry->shard];
     Evicted evicted;
     const std::lock_guard<detail::Mutex> lock(shard.mutex);
     const lru_told told = shard.core.insert(hashed, weight, entry, &evicted);
-    entry->pin = detail::copy_of(told.pin);
-    if (told.code != LRU_DONE) {
-      entry->shard = nullptr;
+    if (told.code == LRU_DONE) {
+      entry->SetPin(told.pin);
+    } else {
       // The old entry must not be found either.
       shard.core.invalidate(hashed, &evicted);
     }
@@ -142,7 +152,7 @@ class BasicLevelDBCache : public leveldb::Cache {
   Handle* Lookup(const leveldb::Slice& key) override {
     if (!CanStore(key)) return nullptr;
     const auto hashed = Hashed(key);
-    Shard& shard = ShardOf(key);
+    Shard& shard = shards_[ShardOf(key)];
     const std::lock_guard<detail::Mutex> lock(shard.mutex);
     const lru_told told = shard.core.get(hashed);
     // It is a miss too if the entry has 2^32 - 1 handles. If the key is longer than any before and
@@ -153,14 +163,14 @@ class BasicLevelDBCache : public leveldb::Cache {
 
   void Release(Handle* handle) override {
     Entry* entry = reinterpret_cast<Entry*>(handle);
-    if (entry->shard == nullptr) {
+    if (!entry->is_cached) {
       delete entry;
       return;
     }
-    Shard& shard = *entry->shard;
+    Shard& shard = shards_[entry->shard];
     Evicted evicted;
     const std::lock_guard<detail::Mutex> lock(shard.mutex);
-    shard.core.release(entry->pin, &evicted);
+    shard.core.release(entry->pin(), &evicted);
   }
 
   void* Value(Handle* handle) override { return reinterpret_cast<Entry*>(handle)->value; }
@@ -168,7 +178,7 @@ class BasicLevelDBCache : public leveldb::Cache {
   void Erase(const leveldb::Slice& key) override {
     if (!CanStore(key)) return;
     const auto hashed = Hashed(key);
-    Shard& shard = ShardOf(key);
+    Shard& shard = shards_[ShardOf(key)];
     Evicted evicted;
     const std::lock_guard<detail::Mutex> lock(shard.mutex);
     // This is refused only if the key is longer than any before, and then it has no entry.
@@ -192,9 +202,14 @@ class BasicLevelDBCache : public leveldb::Cache {
  private:
   static constexpr std::size_t kMostShards = 16;
 
-  struct Shard;
+  struct Deleter {
+    void (*function)(const leveldb::Slice& key, void* value);
+    void operator()(const leveldb::Slice& key, void* value) const {
+      if (function != nullptr) function(key, value);
+    }
+  };
 
-  using Entry = detail::BlockEntry<leveldb::Slice, Shard>;
+  using Entry = detail::BlockEntry<leveldb::Slice, Deleter>;
   using Core = detail::Core<Entry, Key>;
   // Always declared before the mutex is locked: it is destroyed, and deleters run, after the mutex
   // is unlocked.
@@ -206,7 +221,20 @@ class BasicLevelDBCache : public leveldb::Cache {
     mutable detail::Mutex mutex;
   };
 
-  explicit BasicLevelDBCache(std::size_t shards) : shards_(shards) {}
+  explicit BasicLevelDBCache(const BlockCacheOptions& options)
+      : shards_(options.shards != 0
+                    ? options.shards
+                    : ShardsFor(options.capacity, detail::TypicalCharge(options))),
+        charges_metadata_(options.charges_metadata) {}
+
+  bool Open(const BlockCacheOptions& options, Seed seed) {
+    return shards_.Open(options, Metadata(sizeof(Words)), seed);
+  }
+
+  // What an entry with a key of this length counts besides its charge.
+  std::size_t Metadata(std::size_t length) const {
+    return charges_metadata_ ? detail::MetadataOf<Entry, Key>(length) : 0;
+  }
 
   static bool CanStore(const leveldb::Slice& key) { return detail::CanStore<Key>(key); }
 
@@ -215,9 +243,12 @@ class BasicLevelDBCache : public leveldb::Cache {
   auto Hashed(const leveldb::Slice& key) const { return detail::Hashed<Key>(key, shards_.seed()); }
 
   // Of 16 shards, the one that LevelDB's own cache has for the key.
-  Shard& ShardOf(const leveldb::Slice& key) { return shards_.Of(detail::HashOf(key)); }
+  std::uint8_t ShardOf(const leveldb::Slice& key) const {
+    return shards_.NumberFor(detail::HashOf(key));
+  }
 
   detail::Shards<Shard, kMostShards> shards_;
+  const bool charges_metadata_;
   std::atomic<std::uint64_t> last_id_{0};
 };
 
@@ -227,12 +258,15 @@ using LevelDBCache = BasicLevelDBCache<std::string_view>;
 // Caches keys of 16 bytes only. Insert returns entries of other keys, but they are not cached.
 using LevelDBBlockCache = BasicLevelDBCache<Words>;
 
-// A LevelDBCache with the given capacity, or null if there is no memory for it. There are 16
-// shards, or fewer if the capacity is below 256 KiB, unless their number, from 1 to 16, is passed.
-// The caller deletes the cache after the last database that uses it.
+// A LevelDBCache with the given capacity or options, or null if there is no memory for it. There
+// are 16 shards, or fewer if the capacity is below 256 KiB, unless their number, from 1 to 16, is
+// passed. The caller deletes the cache after the last database that uses it.
 inline leveldb::Cache* NewLevelDBCache(std::size_t capacity) { return LevelDBCache::New(capacity); }
 inline leveldb::Cache* NewLevelDBCache(std::size_t capacity, std::size_t shards) {
   return LevelDBCache::New(capacity, shards);
+}
+inline leveldb::Cache* NewLevelDBCache(const BlockCacheOptions& options) {
+  return LevelDBCache::New(options);
 }
 
 // The same, for a LevelDBBlockCache.
@@ -241,6 +275,9 @@ inline leveldb::Cache* NewLevelDBBlockCache(std::size_t capacity) {
 }
 inline leveldb::Cache* NewLevelDBBlockCache(std::size_t capacity, std::size_t shards) {
   return LevelDBBlockCache::New(capacity, shards);
+}
+inline leveldb::Cache* NewLevelDBBlockCache(const BlockCacheOptions& options) {
+  return LevelDBBlockCache::New(options);
 }
 
 }  // namespace lru

@@ -18,6 +18,7 @@
 
 #include <algorithm>
 #include <cassert>
+#include <chrono>
 #include <condition_variable>
 #include <cstddef>
 #include <cstdint>
@@ -76,7 +77,7 @@ enum class Limit { kNotStrict, kStrict };
 struct Stats {
   std::uint64_t hits = 0;        // calls that asked for a value and found it
   std::uint64_t misses = 0;      // calls that asked for a value and found none, and did not wait
-  std::uint64_t waits = 0;       // calls that found the value being made, and waited for it
+  std::uint64_t waits = 0;       // calls that found the value being made; all but try_begin waited
   std::uint64_t insertions = 0;  // values that were inserted, or whose making was begun
   std::uint64_t evictions = 0;   // values that were evicted
   std::uint64_t removals = 0;    // values whose making failed while no caller waited for them
@@ -84,6 +85,10 @@ struct Stats {
   std::uint64_t charge = 0;
   std::uint64_t pinned_charge = 0;
   std::uint64_t capacity = 0;
+  std::uint64_t loads = 0;             // values that were made, by an `init` or with a maker
+  std::uint64_t load_failures = 0;     // values that could not be made
+  std::uint64_t load_nanoseconds = 0;  // the time that these took in all, from the beginning of the
+                                       // making to its end; 0 without set_load_times
 
   // The part of the calls that asked for a value and found it: hits / (hits + misses), or 0 if both
   // are 0. Calls that waited do not count.
@@ -91,6 +96,23 @@ struct Stats {
     const double asked = static_cast<double>(hits) + static_cast<double>(misses);
     return asked == 0 ? 0 : static_cast<double>(hits) / asked;
   }
+};
+
+// About how large the charges of a cache are, by which a ShardedCache chooses how many shards it
+// has.
+struct TypicalCharge {
+  explicit constexpr TypicalCharge(std::uint64_t c) : charge(c) {}
+
+  std::uint64_t charge;
+};
+
+// Why a value leaves a cache. A value that has a handle when it is invalidated, replaced or cleared
+// leaves with its last handle.
+enum class Reason {
+  kEvicted,      // to make room, or by prune, advice_evict or release_and_evict
+  kInvalidated,  // by invalidate or erase_if, or some call took its key away while it was made
+  kReplaced,     // by insert
+  kCleared,      // by clear, or because the cache is destroyed
 };
 
 // How a key is written for the library, which stores bytes or two words. The library compares what
@@ -167,6 +189,8 @@ struct KeyHash {
 
 template <class Value, class Key = std::string_view>
 class Cache;
+template <class Value, class Key = std::string_view>
+class Maker;
 
 namespace detail {
 
@@ -207,17 +231,46 @@ inline std::uint64_t saturating_add(std::uint64_t a, std::uint64_t b) noexcept {
   return b > UINT64_MAX - a ? UINT64_MAX : a + b;
 }
 
+// What a cache with a listener keeps for each value, to call it when the value leaves.
+template <class Value, class Key>
+struct Notice {
+  using Form = typename WrittenAs<Key>::Form;
+  using Shown = detail::Shown<Key, Form>;
+  using Listener = std::function<void(decltype(Shown::of(std::declval<Form>())), const Value&,
+                                      Reason)>;
+
+  Notice(const Listener& l, Form k) : listener(l), key(k) {}
+
+  [[gnu::cold]] void tell(const Value& value) const noexcept {
+    try {
+      listener(Shown::of(key), value, reason);
+    } catch (...) {
+      // The value leaves whatever its listener does, and no caller waits for that.
+    }
+  }
+
+  const Listener& listener;
+  const std::conditional_t<std::is_same_v<Form, Words>, Words, std::string> key;
+  Reason reason = Reason::kEvicted;
+};
+
+struct ByInit {};
+
 // A value of a Cache, on the heap.
-template <class Value>
+template <class Value, class Key>
 struct Node {
   // The value that `init` returns is made in place, so it need not be movable.
-  template <class Init, class Key>
-  Node(Init&& init, const Key& key) : value(std::invoke(std::forward<Init>(init), key)) {}
-  template <class V>
-  explicit Node(V&& v) : value(std::forward<V>(v)) {}
+  template <class Init>
+  Node(ByInit, Init&& init, const Key& key) : value(std::invoke(std::forward<Init>(init), key)) {}
+  template <class... Args>
+  explicit Node(std::in_place_t, Args&&... args) : value(std::forward<Args>(args)...) {}
+  ~Node() {
+    if (notice != nullptr) notice->tell(value);
+  }
 
   Value value;
   Node* next = nullptr;
+  std::unique_ptr<Notice<Value, Key>> notice;  // null without a listener, or if it was refused
 };
 
 // Room for the key of an entry, one after another.
@@ -255,6 +308,8 @@ struct KeyRoom<std::string_view> {
       throw ZeroCharge();
     case LRU_FULL:
       throw Full();
+    case LRU_CLOSED:
+      throw std::logic_error("lru: the destructor of a value calls the cache that is destroyed");
     default:
       throw std::logic_error("lru: the library refused a call that cannot be wrong");
   }
@@ -329,6 +384,77 @@ class Handle {
   Value* value_ = nullptr;
 };
 
+// The duty to make the value of a key, from Cache::begin or try_begin. Other callers that ask for
+// the key wait meanwhile. A maker that is destroyed before `ready` fails: the cache keeps no entry,
+// or one of those that wait makes the value.
+//
+// A maker is moved, not copied. It is empty once it has been moved from, or has ended by `ready` or
+// `fail`. It may be used and destroyed on any thread, by one thread at a time, and must not outlive
+// its cache.
+template <class Value, class Key>
+class Maker {
+ public:
+  Maker() = default;
+  ~Maker() { fail(); }
+
+  Maker(Maker&& other) noexcept { take(&other); }
+  Maker& operator=(Maker&& other) noexcept {
+    if (this != &other) {
+      fail();
+      take(&other);
+    }
+    return *this;
+  }
+  Maker(const Maker&) = delete;
+  Maker& operator=(const Maker&) = delete;
+
+  // Whether there is a value to make.
+  explicit operator bool() const noexcept { return cache_ != nullptr; }
+
+  // Constructs the value in place from these arguments, such as another value to be moved, and
+  // returns a handle of it. The maker is empty then. Throws std::bad_alloc and what the constructor
+  // throws; the maker still has the duty then. Throws std::logic_error if the maker is empty.
+  template <class... Args>
+  Handle<Value, Key> ready(Args&&... args) {
+    static_assert(std::is_constructible_v<Value, Args...>,
+                  "lru: ready is called with what the value can be constructed from");
+    if (cache_ == nullptr) throw std::logic_error("lru: ready is called on an empty maker");
+    return cache_->ready(this, std::make_unique<Node>(std::in_place, std::forward<Args>(args)...));
+  }
+
+  // Gives up, as the destructor does. Of an empty maker, nothing.
+  void fail() noexcept {
+    if (cache_ != nullptr) cache_->fail(this);
+  }
+
+ private:
+  friend class Cache<Value, Key>;
+  using Node = detail::Node<Value, Key>;
+
+  void take(Maker* other) noexcept {
+    if (other->cache_ != nullptr) other->cache_->move(other, this);
+  }
+
+  // Null if the maker is empty. Of the maker's own thread alone, which reads it without the lock.
+  Cache<Value, Key>* cache_ = nullptr;
+  std::chrono::steady_clock::time_point start_;
+  std::unique_ptr<detail::Notice<Value, Key>> notice_;  // null unless there is a listener
+
+  // From its beginning to its end a maker stands in the list of its cache, since no call of the
+  // core shows the entries that have no value yet. These need the lock.
+  lru_pin pin_ = {};
+  Maker** place_ = nullptr;  // what leads to this one: the cache, or the one before
+  Maker* next_ = nullptr;
+};
+
+// What Cache::begin and try_begin return: a handle if the key has a value, or a maker. The other
+// one is empty. After try_begin both are empty if another caller is making the value.
+template <class Value, class Key = std::string_view>
+struct Begun {
+  Handle<Value, Key> handle;
+  Maker<Value, Key> maker;
+};
+
 // A cache behind one lock.
 //
 // Keys are of any type that lru::Key says how to write: as bytes, which the cache copies for each
@@ -344,10 +470,20 @@ template <class Value, class Key>
 class Cache {
   using Form = typename detail::WrittenAs<Key>::Form;
   using Argument = detail::Argument<Key>;
-  using Shown = detail::Shown<Key, Form>;
+  using Notice = detail::Notice<Value, Key>;
+  using Shown = typename Notice::Shown;
 
  public:
   using Handle = lru::Handle<Value, Key>;
+  using Maker = lru::Maker<Value, Key>;
+  using Begun = lru::Begun<Value, Key>;
+
+  // A function that is called for each value that leaves the cache, before it is deleted, with its
+  // key as for_each shows it, a const reference to it, and why it leaves. No lock is held, so what
+  // holds for the destructors of values holds for it: it may take long, and may call the cache.
+  // Several threads may call it at once. What it throws is caught and dropped: the value is
+  // deleted, and the cache goes on. A value that the cache has refused is not shown.
+  using Listener = typename Notice::Listener;
 
   // An empty cache. It evicts idle values while the total of all charges is above `capacity`. The
   // seed is random unless a test passes its own. Throws OutOfMemory, and what std::random_device
@@ -356,14 +492,22 @@ class Cache {
       : Cache(capacity, Limit::kNotStrict, seed) {}
 
   // The same with a limit that may be strict.
-  Cache(std::uint64_t capacity, Limit limit, Seed seed = Seed::random()) : seed_(seed) {
+  Cache(std::uint64_t capacity, Limit limit, Seed seed = Seed::random())
+      : Cache(capacity, nullptr, limit, seed) {}
+
+  // The same with a listener, which may be null. If there is one, the cache keeps a copy of each
+  // key, for which there must be memory too.
+  Cache(std::uint64_t capacity, Listener listener, Limit limit = Limit::kNotStrict,
+        Seed seed = Seed::random())
+      : listener_(std::move(listener)), seed_(seed) {
     if (!core_.open(capacity, seed)) throw OutOfMemory();
     core_.set_strict_limit(limit == Limit::kStrict);
   }
 
-  // Deletes all values. There must be no handle left, as it would dangle; this is asserted. The
-  // destructors of the values must not call this cache.
-  ~Cache() { assert(core_.pinned_charge() == 0 && "lru: a handle outlives its cache"); }
+  // Deletes all values. There must be no handle and no maker left, as it would dangle; this is
+  // asserted. The destructors of the values and the listener must not call this cache: a call that
+  // finds or adds values throws std::logic_error, which ends the program if it leaves a destructor.
+  ~Cache() { close(); }
 
   Cache(const Cache&) = delete;
   Cache& operator=(const Cache&) = delete;
@@ -384,18 +528,27 @@ class Cache {
 
   // Calls `reader` with the key's value, and returns what it returned: a std::optional of it, or a
   // bool if that is void. It is empty, or false, if there is no value or it is still being made.
-  // The value is pinned while `reader` runs, and no lock is held. Does not wait. Throws what `get`
-  // and `reader` throw.
+  // Is the same use of the value as `get` with the end of its handle, but takes the lock once.
+  //
+  // The lock is held while `reader` runs, so it must not call the cache, nor destroy a handle, and
+  // other calls wait. Does not wait for a value. Throws what `get` and `reader` throw.
   template <class Reader>
   auto read(Argument key, Reader&& reader) {
     using Result = std::decay_t<std::invoke_result_t<Reader, Value&>>;
-    const Handle found = get(key);
+    const auto& written = lru::Key<Key>::written(key);
+    const Hashed hashed = hash(written);
+    Evicted evicted;
+    const std::lock_guard<std::mutex> lock(mutex_);
+    const lru_told told = core_.get(hashed);
+    if (told.code != LRU_HIT && told.code != LRU_MISSED) detail::throw_refusal(told.code);
+    // A value that was found stays without its pin, as nothing else is done until `reader` returns.
+    if (told.code == LRU_HIT) core_.release(detail::copy_of(told.pin), &evicted);
     if constexpr (std::is_void_v<Result>) {
-      if (found) std::invoke(std::forward<Reader>(reader), *found);
-      return static_cast<bool>(found);
+      if (told.code == LRU_HIT) std::invoke(std::forward<Reader>(reader), value_of(told));
+      return told.code == LRU_HIT;
     } else {
-      if (!found) return std::optional<Result>();
-      return std::optional<Result>(std::invoke(std::forward<Reader>(reader), *found));
+      if (told.code != LRU_HIT) return std::optional<Result>();
+      return std::optional<Result>(std::invoke(std::forward<Reader>(reader), value_of(told)));
     }
   }
 
@@ -415,10 +568,37 @@ class Cache {
   // no room for one. If there is no memory for the value, std::bad_alloc is thrown as if by `init`.
   template <class Init>
   Handle get_or_init(Argument key, std::uint64_t charge, Init&& init) {
-    Making making(this);
-    const lru_told told = begin(key, charge, &making);
+    static_assert(std::is_invocable_v<Init, const Key&>,
+                  "lru: init is called with the key, as `[](const Key& key) { .. }` can be");
+    Maker maker;
+    const lru_told told = begin(key, charge, true, &maker);
     if (told.code == LRU_HIT) return handle(told);
-    return making.end(std::make_unique<Node>(std::forward<Init>(init), key));
+    return ready(&maker, std::make_unique<Node>(detail::ByInit(), std::forward<Init>(init), key));
+  }
+
+  // Does what get_or_init does, but leaves it to the caller to make the value, at any time and on
+  // any thread:
+  //
+  //   auto [page, maker] = cache.begin("a key", 1);
+  //   if (maker) page = maker.ready(load("a key"));
+  //
+  // Waits if another caller is making the value, so a thread that has a maker must not call this
+  // with its key. Throws what get_or_init throws before `init` runs, and std::bad_alloc if there is
+  // a listener and no memory for its copy of the key.
+  Begun begin(Argument key, std::uint64_t charge) {
+    Begun begun;
+    const lru_told told = begin(key, charge, true, &begun.maker);
+    if (told.code == LRU_HIT) begun.handle = handle(told);
+    return begun;
+  }
+
+  // The same, but never waits: if another caller is making the value, the handle and the maker that
+  // it returns are both empty, and nothing has changed.
+  Begun try_begin(Argument key, std::uint64_t charge) {
+    Begun begun;
+    const lru_told told = begin(key, charge, false, &begun.maker);
+    if (told.code == LRU_HIT) begun.handle = handle(told);
+    return begun;
   }
 
   // Makes `value` the key's value, whatever the key had, and returns a handle of it. Handles of the
@@ -430,14 +610,19 @@ class Cache {
   // value then, and the new one is deleted.
   template <class V>
   Handle insert(Argument key, std::uint64_t charge, V&& value) {
-    auto node = std::make_unique<Node>(std::forward<V>(value));
+    auto node = std::make_unique<Node>(std::in_place, std::forward<V>(value));
     const auto& written = lru::Key<Key>::written(key);
     const Hashed hashed = hash(written);
+    if (listener_) node->notice = notice_for(written);
     Evicted evicted;
     std::unique_lock<std::mutex> lock(mutex_);
     const lru_told told = core_.insert(hashed, charge, node.get(), &evicted);
     lock.unlock();
-    if (told.code != LRU_DONE) detail::throw_refusal(told.code);
+    if (told.code != LRU_DONE) {
+      node->notice.reset();
+      detail::throw_refusal(told.code);
+    }
+    if (listener_) mark_replaced(*node, evicted.first());
     return Handle(this, detail::copy_of(told.pin), std::addressof(node.release()->value));
   }
 
@@ -449,6 +634,7 @@ class Cache {
     const Hashed hashed = hash(written);
     Evicted evicted;
     std::unique_lock<std::mutex> lock(mutex_);
+    if (listener_) mark_invalidated(hashed, &evicted);
     const lru_code code = core_.invalidate(hashed, &evicted);
     lock.unlock();
     if (code != LRU_DONE) detail::throw_refusal(code);
@@ -486,14 +672,20 @@ class Cache {
       for (const lru_entry& entry : findable()) {
         if (entry.pins != 0) pinned.push_back(entry.pin);
       }
-      for (const Making* making = makings_; making != nullptr; making = making->next()) {
-        pinned.push_back(making->pin());
+      for (const Maker* maker = makers_; maker != nullptr; maker = maker->next_) {
+        pinned.push_back(maker->pin_);
       }
       // Once there is room for each of these keys, nothing throws any more.
       for (const lru_pin& pin : pinned) room.key_of(core_, pin);
     }
-    for (const lru_pin& pin : pinned) detach(hash(room.key_of(core_, pin)), &evicted);
+    for (const lru_pin& pin : pinned) {
+      mark(core_.node_of(core_.entry(pin).value), Reason::kCleared);
+      detach(hash(room.key_of(core_, pin)), &evicted);
+    }
     core_.prune(&evicted);
+    for (Node* node = evicted.first(); node != nullptr; node = node->next) {
+      mark(node, Reason::kCleared);
+    }
   }
 
   // Takes the values away, as `invalidate` does, for which `predicate(key, value, charge)` is true,
@@ -516,7 +708,10 @@ class Cache {
     };
     entries.erase(std::remove_if(entries.begin(), entries.end(), stays), entries.end());
     // The room is enough for each of these keys, so nothing throws any more.
-    for (const lru_entry& entry : entries) detach(hash(room.key_of(core_, entry.pin)), &evicted);
+    for (const lru_entry& entry : entries) {
+      mark(core_.node_of(entry.value), Reason::kInvalidated);
+      detach(hash(room.key_of(core_, entry.pin)), &evicted);
+    }
     return entries.size();
   }
 
@@ -580,14 +775,15 @@ class Cache {
   }
 
   // How often calls hit and missed since the cache was constructed, what was inserted and evicted,
-  // and what the cache holds, all at one time. `get`, `read` and `get_or_init` are counted as hits,
-  // misses and waits; `contains`, `insert` and `Handle::clone` are not.
+  // and what the cache holds, all at one time. `get`, `read`, `get_or_init`, `begin` and
+  // `try_begin` are counted as hits, misses and waits; `contains`, `insert` and `Handle::clone` are
+  // not.
   Stats stats() const {
     std::unique_lock<std::mutex> lock(mutex_);
     const lru_stats told = core_.stats();
+    Stats stats = loads_;
     lock.unlock();
-    Stats stats;
-    stats.hits = told.hits;
+    stats.hits = told.hits - own_hits_;
     stats.misses = told.misses;
     stats.waits = told.waits;
     stats.insertions = told.insertions;
@@ -607,11 +803,27 @@ class Cache {
     core_.set_capacity(capacity, &evicted);
   }
 
+  // Makes room for `entries` values in all, so that no call that adds one grows a table until there
+  // are more. Other calls wait meanwhile. Throws OutOfMemory; nothing changes then.
+  void reserve(std::size_t entries) {
+    std::unique_lock<std::mutex> lock(mutex_);
+    const lru_code code = core_.reserve(entries);
+    lock.unlock();
+    if (code != LRU_DONE) detail::throw_refusal(code);
+  }
+
   // Sets whether the capacity is a strict limit. Evicts nothing: pinned values whose total is above
   // the capacity stay, and until enough of them are released, no value is inserted.
   void set_strict_limit(bool is_strict) {
     const std::lock_guard<std::mutex> lock(mutex_);
     core_.set_strict_limit(is_strict);
+  }
+
+  // Says whether stats() tells how long values took to be made, which it does not at first. A miss
+  // then takes about 0.05 us longer.
+  void set_load_times(bool are_measured) {
+    const std::lock_guard<std::mutex> lock(mutex_);
+    times_loads_ = are_measured;
   }
 
   // Whether the capacity is a strict limit.
@@ -620,84 +832,89 @@ class Cache {
     return core_.is_limit_strict();
   }
 
+ protected:
+  // Deletes all values. Only the destructor comes after it.
+  void close() noexcept {
+    assert(core_.pinned_charge() == 0 && "lru: a handle or a maker outlives its cache");
+    Evicted evicted;
+    core_.close(&evicted);
+    for (Node* node = evicted.first(); node != nullptr; node = node->next) {
+      mark(node, Reason::kCleared);
+    }
+  }
+
  private:
   friend Handle;
-  using Node = detail::Node<Value>;
+  friend Maker;
+  using Node = detail::Node<Value, Key>;
   // Always declared before the lock is taken: it is destroyed, and the values with it, after the
   // lock is released.
   using Evicted = detail::Evicted<Node>;
   using Hashed = typename detail::Calls<Form>::Hashed;
 
-  // The duty to make a value, once it has begun. If it is destroyed before `end`, making the value
-  // has failed. From the one to the other it stands in the list of its cache, since no call of the
-  // core shows the entries that have no value yet. The members that change the list need the lock.
-  class Making {
-   public:
-    explicit Making(Cache* cache) noexcept : cache_(cache) {}
-    ~Making() {
-      if (has_begun_) cache_->fail(this);
-    }
-
-    Making(const Making&) = delete;
-    Making& operator=(const Making&) = delete;
-
-    Handle end(std::unique_ptr<Node> node) noexcept {
-      Value* const value = std::addressof(node->value);
-      cache_->ready(this, node.release());
-      return Handle(cache_, pin_, value);
-    }
-
-    void begin(const lru_pin& pin) noexcept {
-      has_begun_ = true;
-      pin_ = detail::copy_of(pin);
-      place_ = &cache_->makings_;
-      next_ = *place_;
-      if (next_ != nullptr) next_->place_ = &next_;
-      *place_ = this;
-    }
-    void leave_list() noexcept {
-      *place_ = next_;
-      if (next_ != nullptr) next_->place_ = place_;
-      has_begun_ = false;
-    }
-
-    const lru_pin& pin() const noexcept { return pin_; }
-    const Making* next() const noexcept { return next_; }
-
-   private:
-    Cache* const cache_;
-    lru_pin pin_ = {};
-    bool has_begun_ = false;    // of its own thread alone, which reads it without the lock
-    Making** place_ = nullptr;  // what leads to this one: the cache, or the one before
-    Making* next_ = nullptr;
-  };
-
   // Comes before the lock is taken, if it can.
   Hashed hash(Form written) const noexcept { return detail::Calls<Form>::hashed(written, seed_); }
 
+  Value& value_of(const lru_told& told) const noexcept { return core_.node_of(told.value)->value; }
+
   Handle handle(const lru_told& told) {
-    return Handle(this, detail::copy_of(told.pin),
-                  std::addressof(core_.node_of(told.value)->value));
+    return Handle(this, detail::copy_of(told.pin), std::addressof(value_of(told)));
   }
 
-  // Finds the key's value, or waits until another caller has made it: LRU_HIT. Or begins to make
-  // it: LRU_MAKE.
-  lru_told begin(Argument key, std::uint64_t charge, Making* making) {
+  // Finds the key's value: LRU_HIT. Or begins to make it: LRU_MAKE. Or, unless it is to wait for
+  // another caller that makes it: LRU_WAIT.
+  lru_told begin(Argument key, std::uint64_t charge, bool waits, Maker* maker) {
     const auto& written = lru::Key<Key>::written(key);
     const Hashed hashed = hash(written);
     Evicted evicted;
     std::unique_lock<std::mutex> lock(mutex_);
     lru_told told = core_.begin(hashed, charge, &evicted);
-    while (told.code == LRU_WAIT) {
+    while (told.code == LRU_WAIT && waits) {
       waiting_++;
       ended_.wait(lock);
       waiting_--;
       told = core_.poll(told.pin);
     }
-    if (told.code == LRU_MAKE) making->begin(told.pin);
+    if (told.code == LRU_WAIT) {
+      // The pin is given back by a `fail`, after which the entry is anybody's to make. The `poll`
+      // gives it back to its maker.
+      core_.fail(told.pin);
+      core_.poll(told.pin);
+    }
+    if (told.code == LRU_MAKE) enlist(maker, told.pin);
+    const bool is_timed = times_loads_;
     lock.unlock();
-    if (told.code != LRU_HIT && told.code != LRU_MAKE) detail::throw_refusal(told.code);
+    if (told.code == LRU_MAKE) {
+      evicted.clear();
+      if (is_timed) maker->start_ = std::chrono::steady_clock::now();
+      if (listener_) maker->notice_ = notice_for(written);
+    } else if (told.code != LRU_HIT && told.code != LRU_WAIT) {
+      detail::throw_refusal(told.code);
+    }
     return told;
+  }
+
+  // These two change the list of makers. The caller holds the lock.
+  void enlist(Maker* maker, const lru_pin& pin) noexcept {
+    maker->cache_ = this;
+    maker->pin_ = detail::copy_of(pin);
+    maker->place_ = &makers_;
+    maker->next_ = makers_;
+    if (makers_ != nullptr) makers_->place_ = &maker->next_;
+    makers_ = maker;
+  }
+  static void delist(Maker* maker) noexcept {
+    maker->cache_ = nullptr;
+    *maker->place_ = maker->next_;
+    if (maker->next_ != nullptr) maker->next_->place_ = maker->place_;
+  }
+
+  void move(Maker* from, Maker* to) noexcept {
+    to->start_ = from->start_;
+    to->notice_ = std::move(from->notice_);
+    const std::lock_guard<std::mutex> lock(mutex_);
+    delist(from);
+    enlist(to, from->pin_);
   }
 
   // All that wait, for whatever value, wait at one condition. So it is notified only if somebody
@@ -706,23 +923,81 @@ class Cache {
   // lock held, and lets go of the lock only by waiting, so no notification is missed.
 
   // Gives the node to the core. It is never refused: its caller is the one that makes the value.
-  void ready(Making* making, Node* node) noexcept {
+  Handle ready(Maker* maker, std::unique_ptr<Node> made) noexcept {
+    const std::uint64_t time = nanoseconds_since(maker->start_);
+    Node* const node = made.release();
+    if (listener_) node->notice = std::move(maker->notice_);
     std::unique_lock<std::mutex> lock(mutex_);
-    making->leave_list();
-    [[maybe_unused]] const lru_code code = core_.ready(making->pin(), node);
-    const bool is_awaited = waiting_ > 0 && core_.pins(making->pin()) > 1;
+    delist(maker);
+    loads_.loads++;
+    loads_.load_nanoseconds += time;
+    [[maybe_unused]] const lru_code code = core_.ready(maker->pin_, node);
+    const bool is_awaited = waiting_ > 0 && core_.entry(maker->pin_).pins > 1;
+    if (listener_ && core_.entry(maker->pin_).is_detached != 0) mark(node, Reason::kInvalidated);
     lock.unlock();
     assert(code == LRU_DONE);
     if (is_awaited) ended_.notify_all();
+    return Handle(this, maker->pin_, std::addressof(node->value));
   }
 
-  void fail(Making* making) noexcept {
+  void fail(Maker* maker) noexcept {
+    const std::uint64_t time = nanoseconds_since(maker->start_);
     std::unique_lock<std::mutex> lock(mutex_);
-    making->leave_list();
-    const lru_code code = core_.fail(making->pin());
+    delist(maker);
+    loads_.load_failures++;
+    loads_.load_nanoseconds += time;
+    const lru_code code = core_.fail(maker->pin_);
     lock.unlock();
+    maker->notice_.reset();
     assert(code == LRU_LEFT || code == LRU_REMOVED);
     if (code == LRU_LEFT) ended_.notify_all();
+  }
+
+  // Returns 0 for a maker that has no start, since the cache did not measure times when it began.
+  static std::uint64_t nanoseconds_since(std::chrono::steady_clock::time_point start) noexcept {
+    if (start == std::chrono::steady_clock::time_point()) return 0;
+    const std::chrono::nanoseconds time = std::chrono::steady_clock::now() - start;
+    return static_cast<std::uint64_t>(time.count());
+  }
+
+  // The rest is for a listener. It is cold, so that a cache without one pays nothing for it.
+
+  [[gnu::cold]] std::unique_ptr<Notice> notice_for(Form written) const {
+    return std::make_unique<Notice>(listener_, written);
+  }
+
+  // Notes why a value leaves, now or later. Does nothing if there is no listener or no value.
+  static void mark(Node* node, Reason reason) noexcept {
+    if (node != nullptr && node->notice != nullptr) node->notice->reason = reason;
+  }
+
+  // Marks the key's value, if it has one, before it is invalidated. Only a pin shows it, whose hit
+  // is not counted; the order of eviction does not matter to a value that leaves.
+  [[gnu::cold]] void mark_invalidated(const Hashed& hashed, Evicted* evicted) {
+    const lru_code code = core_.contains(hashed);
+    if (code == LRU_MISSED) return;
+    if (code != LRU_DONE) detail::throw_refusal(code);
+    const lru_told found = core_.get(hashed);
+    if (found.code != LRU_HIT) return;
+    own_hits_++;
+    mark(core_.node_of(found.value), Reason::kInvalidated);
+    core_.release(found.pin, evicted);
+  }
+
+  // Marks the value that an `insert` of this node has replaced, if it had no handle: it leaves as
+  // the first. No other one that leaves has its key.
+  [[gnu::cold]] static void mark_replaced(const Node& node, Node* first) noexcept {
+    if (first != nullptr && first->notice->key == node.notice->key) mark(first, Reason::kReplaced);
+  }
+
+  // Marks the value of a pin that is given back, if an `insert` has replaced it while it had a
+  // handle. The other calls that take a key away have marked its value.
+  [[gnu::cold]] void mark_replaced(lru_pin pin) noexcept {
+    const lru_entry entry = core_.entry(pin);
+    Node* const node = core_.node_of(entry.value);
+    if (entry.is_detached != 0 && node->notice->reason == Reason::kEvicted) {
+      mark(node, Reason::kReplaced);
+    }
   }
 
   // The entries that have a value which their keys find. The caller holds the lock.
@@ -754,6 +1029,7 @@ class Cache {
   void release(lru_pin pin) noexcept {
     Evicted evicted;
     const std::lock_guard<std::mutex> lock(mutex_);
+    if (listener_) mark_replaced(pin);
     [[maybe_unused]] const lru_code code = core_.release(pin, &evicted);
     assert(code == LRU_DONE);
   }
@@ -761,6 +1037,7 @@ class Cache {
   void release_and_evict(lru_pin pin) noexcept {
     Evicted evicted;
     const std::lock_guard<std::mutex> lock(mutex_);
+    if (listener_) mark_replaced(pin);
     [[maybe_unused]] const lru_code code = core_.release_and_evict(pin, &evicted);
     assert(code == LRU_DONE);
   }
@@ -768,7 +1045,11 @@ class Cache {
   mutable std::mutex mutex_;
   std::condition_variable ended_;  // notified when a value was made, or not, that others wait for
   std::size_t waiting_ = 0;        // how many callers wait there
-  Making* makings_ = nullptr;      // the values that are being made
+  Maker* makers_ = nullptr;        // of the values that are being made
+  Stats loads_;                    // only the numbers of loads
+  bool times_loads_ = false;
+  std::uint64_t own_hits_ = 0;     // hits of mark_invalidated
+  const Listener listener_;        // nodes refer to it, so it is destroyed after them
   detail::Core<Node, Form> core_;
   const Seed seed_;
 };
@@ -783,9 +1064,9 @@ inline std::size_t shards_for(std::uint64_t capacity, std::uint64_t charge) noex
 // A cache of several shards, each a Cache with its own lock and an equal share of the capacity,
 // rounded up. `Hash` chooses the shard of a key. Threads contend less, but a value is evicted when
 // its own shard is full. A shard whose share is smaller than a value's charge does not keep that
-// value once it is idle. So if charges are larger than 1, pass the number of shards:
+// value once it is idle. So if charges are larger than 1, say about how large they are:
 //
-//   lru::ShardedCache<Page> cache(capacity, lru::shards_for(capacity, 4096));
+//   lru::ShardedCache<Page> cache(capacity, lru::TypicalCharge(4096));
 //
 // The shard of a key does not depend on the seed. Whoever knows `Hash`, such as KeyHash, can
 // choose keys that all have the same shard, and so only its lock and its share of the capacity. If
@@ -796,12 +1077,16 @@ class ShardedCache {
 
  public:
   using Handle = lru::Handle<Value, Key>;
+  using Maker = lru::Maker<Value, Key>;
+  using Begun = lru::Begun<Value, Key>;
+  using Listener = typename Cache<Value, Key>::Listener;
 
   // An empty cache, whose seed is random. `capacity` is that of all shards together. The number of
-  // shards is that of shards_for for charges of 1: 16 from a capacity of 512 on, and less below. It
-  // stays the same if the capacity is set later. Throws std::bad_alloc, and what std::random_device
-  // throws.
-  explicit ShardedCache(std::uint64_t capacity) : ShardedCache(capacity, shards_for(capacity, 1)) {}
+  // shards is that of shards_for, for charges of 1 unless the typical one is passed: 16 from a
+  // capacity of 512 such charges on, and less below. It stays the same if the capacity is set
+  // later. Throws std::bad_alloc, and what std::random_device throws.
+  explicit ShardedCache(std::uint64_t capacity, TypicalCharge typical = TypicalCharge(1))
+      : ShardedCache(capacity, shards_for(capacity, typical.charge)) {}
 
   // The same with this number of shards. Throws std::invalid_argument if it is 0.
   ShardedCache(std::uint64_t capacity, std::size_t shards, Hash hash = Hash())
@@ -812,23 +1097,25 @@ class ShardedCache {
   ShardedCache(std::uint64_t capacity, Seed seed)
       : ShardedCache(capacity, seed, shards_for(capacity, 1)) {}
   ShardedCache(std::uint64_t capacity, Seed seed, std::size_t shards, Hash hash = Hash())
-      : hash_(std::move(hash)) {
-    if (shards == 0) throw std::invalid_argument("lru: the number of shards is 0");
-    for (std::size_t i = 0; i < shards; i++)
-      shards_.emplace_back(share(capacity, shards), Seed(seed.number + i));
-  }
+      : ShardedCache(capacity, seed, shards, nullptr, Limit::kNotStrict, std::move(hash)) {}
 
   // The same, with random seeds, and with a limit that may be strict. It is that of each shard: a
   // value has no room if its own shard has none.
   ShardedCache(std::uint64_t capacity, Limit limit)
       : ShardedCache(capacity, shards_for(capacity, 1), limit) {}
   ShardedCache(std::uint64_t capacity, std::size_t shards, Limit limit, Hash hash = Hash())
-      : ShardedCache(capacity, shards, std::move(hash)) {
-    set_strict_limit(limit == Limit::kStrict);
-  }
+      : ShardedCache(capacity, shards, nullptr, limit, std::move(hash)) {}
 
-  // As for Cache.
-  ~ShardedCache() = default;
+  // The same with one listener for all shards, as for Cache. It may be null.
+  ShardedCache(std::uint64_t capacity, std::size_t shards, Listener listener,
+               Limit limit = Limit::kNotStrict, Hash hash = Hash())
+      : ShardedCache(capacity, Seed::random(), shards, std::move(listener), limit,
+                     std::move(hash)) {}
+
+  // As for Cache. All shards are there until all values are deleted.
+  ~ShardedCache() {
+    for (Shard& shard : shards_) shard.close();
+  }
 
   ShardedCache(const ShardedCache&) = delete;
   ShardedCache& operator=(const ShardedCache&) = delete;
@@ -843,6 +1130,8 @@ class ShardedCache {
   Handle get_or_init(Argument key, std::uint64_t charge, Init&& init) {
     return shard(key).get_or_init(key, charge, std::forward<Init>(init));
   }
+  Begun begin(Argument key, std::uint64_t charge) { return shard(key).begin(key, charge); }
+  Begun try_begin(Argument key, std::uint64_t charge) { return shard(key).try_begin(key, charge); }
   template <class V>
   Handle insert(Argument key, std::uint64_t charge, V&& value) {
     return shard(key).insert(key, charge, std::forward<V>(value));
@@ -912,6 +1201,9 @@ class ShardedCache {
       sum.charge = detail::saturating_add(sum.charge, more.charge);
       sum.pinned_charge = detail::saturating_add(sum.pinned_charge, more.pinned_charge);
       sum.capacity = detail::saturating_add(sum.capacity, more.capacity);
+      sum.loads = detail::saturating_add(sum.loads, more.loads);
+      sum.load_failures = detail::saturating_add(sum.load_failures, more.load_failures);
+      sum.load_nanoseconds = detail::saturating_add(sum.load_nanoseconds, more.load_nanoseconds);
     }
     return sum;
   }
@@ -919,12 +1211,25 @@ class ShardedCache {
   // Sets the capacity, of which each shard gets an equal share, rounded up. Idle values that exceed
   // it are evicted at once.
   void set_capacity(std::uint64_t capacity) {
-    for (Shard& shard : shards_) shard.set_capacity(share(capacity, shards_.size()));
+    for (Shard& shard : shards_) shard.set_capacity(detail::share(capacity, shards_.size()));
+  }
+
+  // Makes room for an equal share of `entries` values in each shard, rounded up. A shard that gets
+  // more than its share grows. If this throws, the shards before have made room.
+  void reserve(std::size_t entries) {
+    for (Shard& shard : shards_) {
+      shard.reserve(static_cast<std::size_t>(detail::share(entries, shards_.size())));
+    }
   }
 
   // Sets whether the capacity of each shard is a strict limit, one shard after another.
   void set_strict_limit(bool is_strict) {
     for (Shard& shard : shards_) shard.set_strict_limit(is_strict);
+  }
+
+  // As Cache::set_load_times, for each shard.
+  void set_load_times(bool are_measured) {
+    for (Shard& shard : shards_) shard.set_load_times(are_measured);
   }
 
   // Whether the capacity of every shard is a strict limit. No snapshot, as `len`.
@@ -937,10 +1242,19 @@ class ShardedCache {
   // Shards do not share cache lines, so that threads at different shards do not slow each other.
   struct alignas(64) Shard : Cache<Value, Key> {
     using Cache<Value, Key>::Cache;
+    using Cache<Value, Key>::close;
   };
 
-  static std::uint64_t share(std::uint64_t capacity, std::uint64_t shards) {
-    return capacity / shards + (capacity % shards != 0);
+  ShardedCache(std::uint64_t capacity, Seed seed, std::size_t shards, Listener listener,
+               Limit limit, Hash hash)
+      : listener_(std::move(listener)), hash_(std::move(hash)) {
+    if (shards == 0) throw std::invalid_argument("lru: the number of shards is 0");
+    Listener of_shard;
+    if (listener_) of_shard = std::cref(listener_);
+    for (std::size_t i = 0; i < shards; i++) {
+      shards_.emplace_back(detail::share(capacity, shards), of_shard, limit,
+                           Seed(seed.number + i));
+    }
   }
 
   template <class Number>
@@ -953,6 +1267,7 @@ class ShardedCache {
   Shard& shard(const Key& key) { return shards_[hash_(key) % shards_.size()]; }
   const Shard& shard(const Key& key) const { return shards_[hash_(key) % shards_.size()]; }
 
+  const Listener listener_;  // that of all shards refers to it
   std::deque<Shard> shards_;
   Hash hash_;
 };

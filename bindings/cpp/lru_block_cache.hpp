@@ -1,6 +1,6 @@
-// What leveldb_cache.h and rocksdb_cache.h have in common: entries that keep the bytes of their
-// keys, shards that have a mutex each, and keys that the library stores as bytes or as two words.
-// Nothing here throws, and the header compiles with -fno-exceptions and -fno-rtti.
+// What leveldb_cache.h and rocksdb_cache.h have in common: options, entries that keep the bytes of
+// their keys, shards that have a mutex each, and keys that the library stores as bytes or as two
+// words. Nothing here throws, and the header compiles with -fno-exceptions and -fno-rtti.
 #ifndef LRU_BLOCK_CACHE_HPP
 #define LRU_BLOCK_CACHE_HPP
 
@@ -13,99 +13,134 @@
 #include <new>
 #include <type_traits>
 
-#if __has_include(<sys/single_threaded.h>)
-#include <sys/single_threaded.h>
-#endif
-
 #include "lru_core.hpp"
 
 namespace lru {
+
+// What a block cache is created with.
+struct BlockCacheOptions {
+  // The sum of charges above which entries are evicted. 0 keeps only entries that are pinned.
+  std::size_t capacity = 0;
+
+  // How many shards there are, each with a mutex and an equal share of the capacity. A number above
+  // the most that the cache can have counts as that. If it is 0, ShardsFor chooses it by the
+  // capacity and the typical charge.
+  std::size_t shards = 0;
+
+  // The charge that most entries have, usually the size of a block. A new cache has tables for as
+  // many such entries as the capacity has room for, which take from 48 to 80 bytes for each. Until
+  // there are more entries, no Insert makes a table larger, which takes about 70 nanoseconds for
+  // each entry of the shard while its mutex is held. If there is no memory for the tables, the
+  // cache is not created. If this is 0, it is 4 KiB, but the tables are for 2^21 entries at most.
+  std::size_t typical_charge = 0;
+
+  // Whether each entry also counts about as many bytes as the cache itself takes for it: 240 under
+  // LevelDB and 256 under RocksDB with keys of two words, and more with keys of bytes.
+  bool charges_metadata = false;
+};
+
 namespace detail {
 
-// Whether no thread but this one has ever been started, as far as the C library tells.
-inline bool IsOnlyThread() {
-#if __has_include(<sys/single_threaded.h>)
-  return __libc_single_threaded != 0;
-#else
-  return false;
-#endif
+// The typical charge of options that have none, and for how many such entries there is room then.
+constexpr std::size_t kUsualCharge = 4096;
+constexpr std::size_t kMostExpected = std::size_t{1} << 21;
+
+inline std::size_t TypicalCharge(const BlockCacheOptions& options) {
+  return options.typical_charge == 0 ? kUsualCharge : options.typical_charge;
 }
 
-// Waits a little, as a processor that tries a lock again should.
-inline void Pause() {
-#if defined(__x86_64__) || defined(__i386__)
-  __builtin_ia32_pause();
-#elif defined(__aarch64__)
-  __asm__ __volatile__("isb");
-#endif
+// The sum, or SIZE_MAX if it would be above.
+inline std::size_t SumOf(std::size_t a, std::size_t b) {
+  return a > SIZE_MAX - b ? SIZE_MAX : a + b;
 }
-
-// A mutex that each holder keeps for less time than it takes to put a thread to sleep and to wake
-// it. A thread that finds it held tries it again for a while, less and less often, before it
-// sleeps.
-class Mutex {
- public:
-  void lock() {
-    // With one thread, glibc locks without an atomic instruction, but does not try without one.
-    if (IsOnlyThread()) return mutex_.lock();
-    if (!mutex_.try_lock()) LockHeld();
-  }
-  void unlock() { mutex_.unlock(); }
-
- private:
-  [[gnu::cold]] void LockHeld() {
-    for (int pauses = 1; pauses <= kMostPauses; pauses *= 2) {
-      for (int n = 0; n < pauses; n++) Pause();
-      if (mutex_.try_lock()) return;
-    }
-    mutex_.lock();
-  }
-
-  // With those before them 511 pauses, which take from 2 to some 25 microseconds on processors for
-  // x86-64.
-  static constexpr int kMostPauses = 256;
-
-  std::mutex mutex_;
-};
 
 struct NothingMore {};
 
-// An entry, followed by the bytes of its key. Its destructor runs its deleter. `Slice` is the type
-// of keys of the database, `Shard` is the type of shards, and `More` is what else an entry has.
-template <class Slice, class Shard, class More = NothingMore>
+// An entry, followed by its key. Its destructor calls its deleter with the key and the value.
+// `Slice` is the type of keys of the database, and `More` is what else an entry has.
+template <class Slice, class Deleter, class More = NothingMore>
 struct BlockEntry : More {
-  using Deleter = void (*)(const Slice& key, void* value);
-
   // What a hit and its release use is adjacent, so that it touches as few cache lines as possible.
+  // It is packed, as there is such an entry for each block: a pin would take 24 bytes, and a length
+  // another 8.
   void* value;
-  Shard* shard = nullptr;  // null if the entry is not in the cache
-  lru_pin pin = {};
-  Deleter deleter;  // or null
-  BlockEntry* next = nullptr;
-  std::size_t length;
+  std::uint64_t stamp = 0;
+  union {
+    std::uint64_t hash = 0;
+    BlockEntry* next;  // of an entry that is to be deleted
+  };
+  std::uint32_t place = 0;
+  std::uint8_t shard = 0;
+  bool is_cached = false;
+  bool is_detached = false;  // whether it is in the cache and its key does not find it
+  bool has_words;            // whether the key has 16 bytes; the length of another key precedes it
+  Deleter deleter;
 
   // Null if there is no memory.
   static BlockEntry* New(const Slice& key, void* value, Deleter deleter) {
-    void* at = std::malloc(sizeof(BlockEntry) + key.size());
+    void* at = std::malloc(SizeWith(key.size()));
     return at == nullptr ? nullptr : ::new (at) BlockEntry(key, value, deleter);
   }
 
-  ~BlockEntry() {
-    if (deleter != nullptr) deleter(key(), value);
-  }
+  ~BlockEntry() { deleter(key(), value); }
   static void operator delete(void* at) { std::free(at); }
 
   BlockEntry(const BlockEntry&) = delete;
   BlockEntry& operator=(const BlockEntry&) = delete;
 
-  Slice key() const { return Slice(reinterpret_cast<const char*>(this + 1), length); }
+  // How many bytes an entry takes with a key of this length.
+  static constexpr std::size_t SizeWith(std::size_t length) {
+    return sizeof(BlockEntry) + (length == sizeof(Words) ? 0 : sizeof length) + length;
+  }
+
+  Slice key() const {
+    const char* const at = reinterpret_cast<const char*>(this + 1);
+    if (has_words) return Slice(at, sizeof(Words));
+    std::size_t length;
+    std::memcpy(&length, at, sizeof length);
+    return Slice(at + sizeof length, length);
+  }
+
+  // Of an entry in the cache.
+  lru_pin pin() const { return {stamp, hash, place}; }
+
+  // Makes it an entry in the cache. A place above 2^32 - 1 is not kept: the wrong one changes no
+  // answer, and only a detached entry is looked for by its place.
+  void SetPin(const lru_pin& told) {
+    const lru_pin pin = copy_of(told);
+    stamp = pin.stamp;
+    hash = pin.hash;
+    place = static_cast<std::uint32_t>(std::min<std::size_t>(pin.place, UINT32_MAX));
+    is_cached = true;
+  }
 
  private:
-  BlockEntry(const Slice& k, void* v, Deleter d) : value(v), deleter(d), length(k.size()) {
-    char* const bytes = reinterpret_cast<char*>(this + 1);
-    std::memcpy(bytes, k.data(), k.size());
+  BlockEntry(const Slice& key, void* v, Deleter d)
+      : value(v), has_words(key.size() == sizeof(Words)), deleter(d) {
+    const std::size_t length = key.size();
+    char* at = reinterpret_cast<char*>(this + 1);
+    if (!has_words) {
+      std::memcpy(at, &length, sizeof length);
+      at += sizeof length;
+    }
+    std::memcpy(at, key.data(), length);
   }
 };
+
+// How many bytes glibc's malloc takes for a block of this size.
+constexpr std::size_t AllocatedFor(std::size_t size) {
+  return std::max<std::size_t>((size + 8 + 15) / 16 * 16, 32);
+}
+
+// About how many bytes a cache takes for an entry with a key of this length, all in all. The
+// library has a node of 112 bytes, or of 128 and the bytes of the key, 16 bytes in a list of the
+// nodes, and from 32 to 64 in a table.
+template <class Entry, class Key>
+constexpr std::size_t MetadataOf(std::size_t length) {
+  constexpr std::size_t kTables = 16 + 48;
+  return AllocatedFor(Entry::SizeWith(length)) + kTables +
+         (std::is_same_v<Key, Words> ? 112 : 128 + AllocatedFor(length));
+}
 
 // Whether the library can store a key of the database as a `Key`, which is std::string_view or
 // Words.
@@ -135,16 +170,22 @@ auto Hashed(const Slice& key, Seed seed) {
 // The shards of a cache: from 1 to `kMost`. A `Shard` has a `core` and a `mutex`.
 template <class Shard, std::size_t kMost>
 class Shards {
+  static_assert(kMost <= UINT8_MAX + 1, "lru: a shard has a number of one byte");
+
  public:
   // Another number counts as the nearest of these.
   explicit Shards(std::size_t count) : count_(std::clamp<std::size_t>(count, 1, kMost)) {}
 
-  // False if there is no memory. Each shard gets another seed. Comes before all other members, and
-  // only once.
-  bool Open(std::size_t capacity, Seed seed) {
+  // False if there is no memory. Each shard gets another seed, and has room for its share of the
+  // entries that the options let expect, each of which takes `metadata` of the capacity besides its
+  // charge. Comes before all other members, and only once.
+  bool Open(const BlockCacheOptions& options, std::size_t metadata, Seed seed) {
     seed_ = seed;
+    const std::size_t share = Share(options.capacity);
+    std::size_t entries = share / SumOf(TypicalCharge(options), metadata);
+    if (options.typical_charge == 0) entries = std::min(entries, kMostExpected / count_);
     for (Shard& shard : *this) {
-      if (!shard.core.open(Share(capacity), seed)) return false;
+      if (!shard.core.open(share, seed) || shard.core.reserve(entries) != LRU_DONE) return false;
       seed.number++;
     }
     return true;
@@ -157,11 +198,14 @@ class Shards {
 
   // The capacity of each shard if this is the capacity of the cache.
   std::size_t Share(std::size_t capacity) const {
-    return capacity / count_ + (capacity % count_ != 0);
+    return static_cast<std::size_t>(share(capacity, count_));
   }
 
-  // The highest bits of the hash choose the shard, the highest 4 one of 16.
-  Shard& Of(std::uint32_t hash) { return shards_[std::uint64_t{hash} * count_ >> 32]; }
+  // The number of the shard that a hash chooses by its highest bits, by the highest 4 of 16 shards.
+  std::uint8_t NumberFor(std::uint32_t hash) const {
+    return static_cast<std::uint8_t>(std::uint64_t{hash} * count_ >> 32);
+  }
+  Shard& operator[](std::uint8_t number) { return shards_[number]; }
 
   // The sum of a number of each shard, which `number` returns while the mutex is held.
   template <class Number>

@@ -1,16 +1,22 @@
-// The library of lru.h as C++ classes without a lock. lru.hpp, leveldb_cache.h and rocksdb_cache.h
-// are built on them. Nothing here throws except Seed::random, and the header compiles with
-// -fno-exceptions and -fno-rtti.
+// The library of lru.h as C++ classes without a lock, and a mutex. lru.hpp, lru_clock.hpp,
+// leveldb_cache.h and rocksdb_cache.h are built on them. Nothing here throws except Seed::random,
+// and the header compiles with -fno-exceptions and -fno-rtti.
 #ifndef CONCURRENT_LRU_CORE_HPP
 #define CONCURRENT_LRU_CORE_HPP
 
+#include <condition_variable>
 #include <cstddef>
 #include <cstdint>
 #include <functional>
+#include <mutex>
 #include <random>
 #include <string_view>
 #include <type_traits>
 #include <utility>
+
+#if __has_include(<sys/single_threaded.h>)
+#include <sys/single_threaded.h>
+#endif
 
 #include "lru.h"
 
@@ -67,6 +73,11 @@ struct HashedBytes {
 // cache. `volatile` keeps the compiler from joining the reads.
 inline lru_pin copy_of(const volatile lru_pin& told) noexcept {
   return lru_pin{told.stamp, told.hash, told.place};
+}
+
+// The part of a capacity that each of so many shards gets: equal ones, rounded up.
+inline std::uint64_t share(std::uint64_t capacity, std::uint64_t shards) noexcept {
+  return capacity / shards + (capacity % shards != 0);
 }
 
 // The functions of lru.h that take a key, for each kind of key. They take it as a `Hashed`, which
@@ -138,22 +149,80 @@ struct Calls<Words> {
   }
 };
 
+// Whether no thread but this one has ever been started, as far as the C library tells.
+inline bool IsOnlyThread() {
+#if __has_include(<sys/single_threaded.h>)
+  return __libc_single_threaded != 0;
+#else
+  return false;
+#endif
+}
+
+// Waits a little, as a processor that tries a lock again should.
+inline void Pause() {
+#if defined(__x86_64__) || defined(__i386__)
+  __builtin_ia32_pause();
+#elif defined(__aarch64__)
+  __asm__ __volatile__("isb");
+#endif
+}
+
+// A mutex that each holder keeps for less time than it takes to put a thread to sleep and to wake
+// it. A thread that finds it held tries it again for a while, less and less often, before it
+// sleeps.
+class Mutex {
+ public:
+  void lock() {
+    // With one thread, glibc locks without an atomic instruction, but does not try without one.
+    if (IsOnlyThread()) return mutex_.lock();
+    if (!mutex_.try_lock()) LockHeld();
+  }
+  void unlock() { mutex_.unlock(); }
+
+  // Waits at a condition. The caller holds the mutex, and holds it again afterwards.
+  void wait(std::condition_variable* condition) {
+    std::unique_lock<std::mutex> lock(mutex_, std::adopt_lock);
+    condition->wait(lock);
+    lock.release();
+  }
+
+ private:
+  [[gnu::cold]] void LockHeld() {
+    for (int pauses = 1; pauses <= kMostPauses; pauses *= 2) {
+      for (int n = 0; n < pauses; n++) Pause();
+      if (mutex_.try_lock()) return;
+    }
+    mutex_.lock();
+  }
+
+  // With those before them 511 pauses, which take from 2 to some 25 microseconds on processors for
+  // x86-64.
+  static constexpr int kMostPauses = 256;
+
+  std::mutex mutex_;
+};
+
 // Nodes that were evicted, oldest first. The destructor deletes them. It must run without the lock:
 // the destructor of a value may take long, and may call the cache.
 template <class Node>
 class Evicted {
  public:
   Evicted() = default;
-  ~Evicted() {
-    while (first_ != nullptr) delete std::exchange(first_, first_->next);
-  }
+  ~Evicted() { clear(); }
 
   Evicted(const Evicted&) = delete;
   Evicted& operator=(const Evicted&) = delete;
 
   void add(Node* node) noexcept {
+    node->next = nullptr;
     (last_ == nullptr ? first_ : last_->next) = node;
     last_ = node;
+  }
+
+  // Deletes them now.
+  void clear() noexcept {
+    last_ = nullptr;
+    while (first_ != nullptr) delete std::exchange(first_, first_->next);
   }
 
   // The oldest of them, or null. Each leads to the one that was evicted after it.
@@ -183,8 +252,7 @@ class Core {
   // Deletes all nodes that are left. Calls on handles that are not open do nothing.
   ~Core() {
     Evicted<Node> rest;
-    lru_cache_free(&cache_, &chain_);
-    take_evicted(&rest);
+    close(&rest);
     lru_chain_free(&chain_);
   }
 
@@ -196,6 +264,13 @@ class Core {
   [[nodiscard]] bool open(std::uint64_t capacity, Seed seed) noexcept {
     return lru_chain_new(&chain_) == LRU_DONE &&
            lru_cache_new(Calls::kind, capacity, seed.number, &cache_) == LRU_DONE;
+  }
+
+  // Closes the cache, and moves all nodes that are left to `evicted`. Later calls do nothing, and
+  // tell LRU_CLOSED.
+  void close(Evicted<Node>* evicted) noexcept {
+    lru_cache_free(&cache_, &chain_);
+    take_evicted(evicted);
   }
 
   // Whether the capacity is a strict limit, which at first it is not. If it is, calls of begin and
@@ -214,10 +289,11 @@ class Core {
     return lru_cache_ready(&cache_, pin, word_of(node));
   }
   lru_code fail(lru_pin pin) noexcept { return lru_cache_fail(&cache_, pin); }
-  // The number of pins of an entry that has a value.
-  std::uint32_t pins(lru_pin pin) const noexcept {
-    lru_entry entry;
-    return lru_cache_entry(&cache_, pin, &entry) == LRU_DONE ? entry.pins : 0;
+  // The entry of a pin. All of it is 0 if it has no value.
+  lru_entry entry(lru_pin pin) const noexcept {
+    lru_entry entry = {};
+    lru_cache_entry(&cache_, pin, &entry);
+    return entry;
   }
   lru_told get(Hashed key) noexcept { return Calls::get(&cache_, key); }
   lru_code contains(Hashed key) const noexcept { return Calls::contains(&cache_, key); }
@@ -256,6 +332,7 @@ class Core {
     lru_cache_set_capacity(&cache_, capacity, &chain_);
     take_evicted(evicted);
   }
+  lru_code reserve(std::size_t entries) noexcept { return lru_cache_reserve(&cache_, entries); }
   std::uint64_t total() const noexcept { return lru_cache_total(&cache_).value; }
   std::uint64_t pinned_charge() const noexcept { return lru_cache_pinned_charge(&cache_).value; }
   std::uint64_t capacity() const noexcept { return lru_cache_capacity(&cache_).value; }

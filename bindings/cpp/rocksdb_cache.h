@@ -5,9 +5,13 @@
 //   rocksdb::Options options;
 //   options.table_factory.reset(rocksdb::NewBlockBasedTableFactory(table));
 //
-// It is for RocksDB 7.8. RocksDB's block cache has keys of 16 bytes, and RocksDBBlockCache caches
-// only such keys: it stores them as two words, which is faster. RocksDBCache caches keys of any
-// length, such as those of a row cache.
+// It is for RocksDB 7.8 and 9.10. RocksDB's block cache has keys of 16 bytes, and RocksDBBlockCache
+// caches only such keys: it stores them as two words, which is faster. RocksDBCache caches keys of
+// any length, such as those of a row cache.
+//
+// Among 100,000 entries, one of a RocksDBBlockCache takes 250 bytes of memory beside its value, one
+// of a RocksDBCache with a key of 16 bytes 298, and one of RocksDB's own 107. They count only with
+// the option charges_metadata.
 //
 // Like RocksDB's own LRU cache it has shards, each with a mutex, and evicts what was released
 // longest ago. With the same shards, both caches give the same answers and hold the same entries,
@@ -15,8 +19,9 @@
 // low_pri_pool_ratio are 0) and charges no metadata (kDontChargeCacheMetadata). The differences:
 //
 //  - Priorities are accepted and not distinguished.
-//  - Only the charges that are passed to Insert count. The memory of the cache itself does not.
-//  - A charge of 0 counts as 1. A database pins one such entry, for its statistics.
+//  - The memory of the cache itself is charged only with charges_metadata, and not by default.
+//  - A charge of 0 counts as 1, without charges_metadata. A database pins one such entry, for its
+//    statistics.
 //  - The number of shards is any number from 1 to 64, not a power of two, and a key has another
 //    shard than in RocksDB's cache.
 //  - Insert for a key that has an entry. If the old entry is not pinned, it leaves before room is
@@ -31,24 +36,28 @@
 //    of the key that is pinned stays. Without the strict limit, all entries that are not pinned are
 //    evicted, as in RocksDB's cache. With it, only that of the key is.
 //  - An entry has at most 2^32 - 1 handles. Then Lookup does not find it, and Ref returns false.
-//  - If there is no memory for an entry, Insert returns MemoryLimit, and nothing has changed, but
-//    without a handle the value is deleted. If there is memory for the entry but none to cache it,
-//    or the total charge would overflow, Insert returns OK and an entry that is not cached: Lookup
-//    does not find it, no number counts it, and its last Release deletes it. An earlier entry of
-//    the key is erased. This is better than MemoryLimit for a database, whose read fails then.
-//    RocksDB's cache ends the process if an allocation fails.
+//  - If there is no memory for an entry, Insert returns MemoryLimit, and nothing has changed; but
+//    without a handle the value is deleted in RocksDB 7.8, as its interface says. If there is
+//    memory for the entry but none to cache it, or the total charge would overflow, Insert returns
+//    OK and an entry that is not cached: Lookup does not find it, no number counts it, and its last
+//    Release deletes it. An earlier entry of the key is erased. This is better than MemoryLimit for
+//    a database, whose read fails then. RocksDB's cache ends the process if an allocation fails.
+//  - CreateStandalone (RocksDB 9.10) evicts nothing if there is no room with the strict limit. If
+//    there is no memory for the entry, it returns null. If there is none to count it, or the total
+//    would overflow, the entry is uncharged; with the strict limit only if that is allowed, and
+//    otherwise null is returned.
 //  - ApplyToAllEntries holds the mutex of a shard while it visits all of its entries, whatever
 //    average_entries_per_lock is. The callback may read the key and the value and change what they
 //    point to, but it must not call the cache, wait for a thread that does, or delete the value. If
 //    there is no memory for a list of the entries of a shard, they are not visited.
 //  - Lookup does not use its statistics. There is no secondary cache and no memory allocator: of a
-//    CacheItemHelper only the deleter is called.
+//    CacheItemHelper only the deleter is called. Eviction callbacks (RocksDB 9.10) are not called.
 //  - The destructor deletes entries that are still pinned; RocksDB's leaves them. Deleters that the
 //    destructor runs must not call the cache. Other deleters run without the mutex, as in RocksDB's
 //    cache, so they may be slow and may call the cache.
-//  - GetOccupancyCount returns the number of entries that keys find, as rocksdb/cache.h says. That
+//  - GetOccupancyCount returns the number of entries that keys find, as RocksDB's headers say. That
 //    of RocksDB 7.8's cache returns what GetPinnedUsage does.
-//  - DisownData does nothing, and GetTableAddressCount returns 0.
+//  - DisownData does nothing, and GetTableAddressCount and GetHashSeed return 0.
 //
 // Each cache hashes keys with a random seed, so that nobody can choose keys whose hashes are equal.
 // If std::random_device has no random numbers, the process ends.
@@ -81,11 +90,19 @@
 #include "rocksdb/status.h"
 #include "rocksdb/version.h"
 
-#if ROCKSDB_MAJOR != 7 || ROCKSDB_MINOR != 8
-#error "lru: rocksdb_cache.h is for RocksDB 7.8"
+#if ROCKSDB_MAJOR == 9 && ROCKSDB_MINOR == 10
+#include "rocksdb/advanced_cache.h"
+#elif ROCKSDB_MAJOR != 7 || ROCKSDB_MINOR != 8
+#error "lru: rocksdb_cache.h is for RocksDB 7.8 and 9.10"
 #endif
 
 namespace lru {
+
+// What a cache for RocksDB is created with.
+struct RocksDBCacheOptions : BlockCacheOptions {
+  // Whether Insert refuses entries for which there is no room.
+  bool strict_capacity_limit = false;
+};
 
 // `Key` is how the library stores keys: std::string_view or Words.
 template <class Key>
@@ -100,80 +117,123 @@ class BasicRocksDBCache : public rocksdb::Cache {
     return std::clamp<std::size_t>(blocks / 4, 1, kMostShards);
   }
 
-  // A cache with the given capacity, or null if there is no memory for it. `shards` is from 1 to
-  // 64; another number counts as the nearest of these. The limit is not strict unless it is asked
-  // for. The seed is random unless a test passes its own.
+  // A cache with these options, or null if there is no memory for it. The seed is random unless a
+  // test passes its own.
+  static BasicRocksDBCache* New(const RocksDBCacheOptions& options) noexcept {
+    return New(options, Seed::random());
+  }
+  static BasicRocksDBCache* New(const RocksDBCacheOptions& options, Seed seed) noexcept {
+    auto* cache = new (std::nothrow) BasicRocksDBCache(options);
+    if (cache == nullptr || cache->Open(options, seed)) return cache;
+    delete cache;
+    return nullptr;
+  }
+
+  // The same, with a capacity alone, or with a number of shards from 1 to 64; another number counts
+  // as the nearest of these.
   static BasicRocksDBCache* New(std::size_t capacity) noexcept {
-    return New(capacity, ShardsFor(capacity));
+    return New(RocksDBCacheOptions{{capacity}});
   }
   static BasicRocksDBCache* New(std::size_t capacity, std::size_t shards,
                                 bool strict_capacity_limit = false) noexcept {
-    return New(capacity, shards, strict_capacity_limit, Seed::random());
-  }
-  static BasicRocksDBCache* New(std::size_t capacity, std::size_t shards,
-                                bool strict_capacity_limit, Seed seed) noexcept {
-    auto* cache = new (std::nothrow) BasicRocksDBCache(capacity, shards, strict_capacity_limit);
-    if (cache == nullptr || cache->shards_.Open(capacity, seed)) return cache;
-    delete cache;
-    return nullptr;
+    return New(RocksDBCacheOptions{{capacity, std::max<std::size_t>(shards, 1)},
+                                   strict_capacity_limit});
   }
 
   BasicRocksDBCache(const BasicRocksDBCache&) = delete;
   BasicRocksDBCache& operator=(const BasicRocksDBCache&) = delete;
 
-  // These are as rocksdb/cache.h describes them, with the differences above. Any thread may call
-  // them at any time.
+  // These are as rocksdb/cache.h or rocksdb/advanced_cache.h describes them, with the differences
+  // above. Any thread may call them at any time. First those that changed in RocksDB 8 and 9.
 
-  const char* Name() const override {
-    return std::is_same_v<Key, Words> ? "lru::RocksDBBlockCache" : "lru::RocksDBCache";
-  }
+#if ROCKSDB_MAJOR == 7
+  using Helper = DeleterFn;
 
   using rocksdb::Cache::Insert;
   rocksdb::Status Insert(const rocksdb::Slice& key, void* value, std::size_t charge,
                          DeleterFn deleter, Handle** handle = nullptr,
                          Priority = Priority::LOW) override {
-    if (handle != nullptr) *handle = nullptr;
-    Entry* entry = Entry::New(key, value, deleter);
-    if (entry == nullptr) {
-      if (handle == nullptr && deleter != nullptr) deleter(key, value);
-      return rocksdb::Status::MemoryLimit();
-    }
-    entry->charge = std::max<std::size_t>(charge, 1);
-    if (CanStore(key)) return InsertInto(Hashed(key), entry, handle);
-    if (handle == nullptr) {
-      delete entry;
-    } else {
-      *handle = HandleOf(entry);
-    }
-    return rocksdb::Status::OK();
+    const rocksdb::Status status = InsertValue(key, value, deleter, charge, handle);
+    // Without a handle, it is refused only if there is no memory for an entry.
+    if (!status.ok() && handle == nullptr) Deleter{deleter}(key, value);
+    return status;
   }
 
   using rocksdb::Cache::Lookup;
   Handle* Lookup(const rocksdb::Slice& key, rocksdb::Statistics* = nullptr) override {
-    if (!CanStore(key)) return nullptr;
-    const HashedKey hashed = Hashed(key);
-    Shard& shard = ShardOf(hashed);
-    const std::lock_guard<detail::Mutex> lock(shard.mutex);
-    const lru_told told = shard.core.get(hashed);
-    // It is a miss too if the entry has 2^32 - 1 handles. If the key is longer than any before and
-    // there is no memory for a copy, it has no entry.
-    return told.code == LRU_HIT ? HandleOf(Core::node_of(told.value)) : nullptr;
+    return Find(key);
+  }
+
+  DeleterFn GetDeleter(Handle* handle) const override { return EntryOf(handle)->deleter.helper; }
+#else
+  using Helper = const CacheItemHelper*;
+
+  rocksdb::Status Insert(
+      const rocksdb::Slice& key, ObjectPtr value, const CacheItemHelper* helper,
+      std::size_t charge, Handle** handle = nullptr, Priority = Priority::LOW,
+      const rocksdb::Slice& = rocksdb::Slice(),
+      rocksdb::CompressionType = rocksdb::CompressionType::kNoCompression) override {
+    return InsertValue(key, value, helper, charge, handle);
+  }
+
+  Handle* CreateStandalone(const rocksdb::Slice& key, ObjectPtr value,
+                           const CacheItemHelper* helper, std::size_t charge,
+                           bool allow_uncharged) override {
+    Entry* entry = NewEntry(key, value, helper, charge);
+    if (entry == nullptr) return nullptr;
+    entry->shard = CanStore(key) ? ShardOf(Hashed(key)) : 0;
+    Call call(&shards_[entry->shard]);
+    const bool is_strict = is_strict_;
+    if (!is_strict || call.HasRoom(WeightOf(*entry))) {
+      call.AddDetached(entry, WeightOf(*entry), shards_.seed());
+    }
+    if (!entry->is_cached) {
+      if (is_strict && !allow_uncharged) {
+        call.Refuse(entry);
+        return nullptr;
+      }
+      entry->charge = 0;
+    }
+    return HandleOf(entry);
+  }
+
+  Handle* Lookup(const rocksdb::Slice& key, const CacheItemHelper* = nullptr,
+                 CreateContext* = nullptr, Priority = Priority::LOW,
+                 rocksdb::Statistics* = nullptr) override {
+    return Find(key);
+  }
+
+  const CacheItemHelper* GetCacheItemHelper(Handle* handle) const override {
+    return EntryOf(handle)->deleter.helper;
+  }
+
+  void ApplyToHandle(rocksdb::Cache*, Handle* handle,
+                     const std::function<void(const rocksdb::Slice& key, ObjectPtr value,
+                                              std::size_t charge, const CacheItemHelper* helper)>&
+                         callback) override {
+    Visit(*EntryOf(handle), callback);
+  }
+#endif
+
+  const char* Name() const override {
+    return std::is_same_v<Key, Words> ? "lru::RocksDBBlockCache" : "lru::RocksDBCache";
   }
 
   bool Ref(Handle* handle) override {
     Entry* entry = EntryOf(handle);
-    if (entry->shard == nullptr) {
+    if (!entry->is_cached) {
       entry->other_handles++;
       return true;
     }
-    const std::lock_guard<detail::Mutex> lock(entry->shard->mutex);
-    return entry->shard->core.repin(entry->pin).code == LRU_PINNED;
+    Shard& shard = shards_[entry->shard];
+    const std::lock_guard<detail::Mutex> lock(shard.mutex);
+    return shard.core.repin(entry->pin()).code == LRU_PINNED;
   }
 
   using rocksdb::Cache::Release;
   bool Release(Handle* handle, bool erase_if_last_ref = false) override {
     Entry* entry = EntryOf(handle);
-    if (entry->shard != nullptr) return Call(entry->shard).Release(entry, erase_if_last_ref);
+    if (entry->is_cached) return Call(&shards_[entry->shard]).Release(entry, erase_if_last_ref);
     if (entry->other_handles-- > 0) return false;
     delete entry;
     return true;
@@ -184,7 +244,7 @@ class BasicRocksDBCache : public rocksdb::Cache {
   void Erase(const rocksdb::Slice& key) override {
     if (!CanStore(key)) return;
     const HashedKey hashed = Hashed(key);
-    Call(&ShardOf(hashed)).Detach(hashed, key);
+    Call(&shards_[ShardOf(hashed)]).Detach(hashed, key);
   }
 
   std::uint64_t NewId() override { return ++last_id_; }
@@ -217,15 +277,12 @@ class BasicRocksDBCache : public rocksdb::Cache {
 
   std::size_t GetUsage(Handle* handle) const override { return EntryOf(handle)->charge; }
   std::size_t GetCharge(Handle* handle) const override { return EntryOf(handle)->charge; }
-  DeleterFn GetDeleter(Handle* handle) const override { return EntryOf(handle)->deleter; }
 
   void ApplyToAllEntries(const std::function<void(const rocksdb::Slice& key, void* value,
-                                                  std::size_t charge, DeleterFn deleter)>& callback,
+                                                  std::size_t charge, Helper helper)>& callback,
                          const ApplyToAllEntriesOptions&) override {
     for (Shard& shard : shards_) {
-      Call(&shard).ForEachFound([&](const Entry& entry) {
-        callback(entry.key(), entry.value, entry.charge, entry.deleter);
-      });
+      Call(&shard).ForEachFound([&](const Entry& entry) { Visit(entry, callback); });
     }
   }
 
@@ -236,24 +293,37 @@ class BasicRocksDBCache : public rocksdb::Cache {
   std::string GetPrintableOptions() const override {
     char text[160];
     std::snprintf(text, sizeof text,
-                  "    capacity : %zu\n    shards : %zu\n    strict_capacity_limit : %d\n",
-                  GetCapacity(), shards_.count(), HasStrictCapacityLimit() ? 1 : 0);
+                  "    capacity : %zu\n    shards : %zu\n    strict_capacity_limit : %d\n"
+                  "    charges_metadata : %d\n",
+                  GetCapacity(), shards_.count(), HasStrictCapacityLimit() ? 1 : 0,
+                  charges_metadata_ ? 1 : 0);
     return text;
   }
 
  private:
   static constexpr std::size_t kMostShards = 64;
 
-  struct Shard;
+  // Deletes the value of an entry, unless the helper is null or has no deleter.
+  struct Deleter {
+    Helper helper;
+#if ROCKSDB_MAJOR == 7
+    void operator()(const rocksdb::Slice& key, void* value) const {
+      if (helper != nullptr) helper(key, value);
+    }
+#else
+    void operator()(const rocksdb::Slice&, void* value) const {
+      if (helper != nullptr && helper->del_cb != nullptr) helper->del_cb(value, nullptr);
+    }
+#endif
+  };
 
   struct More {
     // Of an entry that is not in the cache, how many handles it has besides one.
     std::atomic<std::size_t> other_handles{0};
-    bool is_detached = false;  // whether it is in the cache and its key does not find it
-    std::size_t charge = 0;    // last, as a hit reads it with what follows
+    std::size_t charge = 0;  // last, as a hit reads it with what follows
   };
 
-  using Entry = detail::BlockEntry<rocksdb::Slice, Shard, More>;
+  using Entry = detail::BlockEntry<rocksdb::Slice, Deleter, More>;
   using Core = detail::Core<Entry, Key>;
   using HashedKey = typename Core::Hashed;
 
@@ -282,25 +352,39 @@ class BasicRocksDBCache : public rocksdb::Cache {
 
     // Adds an entry and pins it, and returns whether it takes the place of another one of the key.
     // If the library refuses it, the entry is not in the cache.
-    bool Add(const HashedKey& hashed, Entry* entry) {
-      lru_told told = shard_.core.begin(hashed, entry->charge, &evicted_);
+    bool Add(const HashedKey& hashed, Entry* entry, std::uint64_t weight) {
+      lru_told told = shard_.core.begin(hashed, weight, &evicted_);
       // Most keys have no entry, and are looked up only once.
       const bool replaces = DetachFound(told, hashed, entry->key());
-      if (replaces) told = shard_.core.begin(hashed, entry->charge, &evicted_);
+      if (replaces) told = shard_.core.begin(hashed, weight, &evicted_);
       if (told.code == LRU_MAKE) {
         shard_.core.ready(told.pin, entry);
-        entry->pin = detail::copy_of(told.pin);
-        entry->shard = &shard_;
+        entry->SetPin(told.pin);
       }
       return replaces;
+    }
+
+    // The same, of an entry that no key finds. The library has it for a moment with some key that
+    // has no entry.
+    void AddDetached(Entry* entry, std::uint64_t weight, Seed seed) {
+      std::uint64_t words[2] = {0, 0};
+      const auto hashed = [&] {
+        const rocksdb::Slice key(reinterpret_cast<const char*>(words), sizeof words);
+        return detail::Hashed<Key>(key, seed);
+      };
+      while (shard_.core.contains(hashed()) == LRU_DONE) words[0]++;
+      Add(hashed(), entry, weight);
+      if (!entry->is_cached) return;
+      shard_.core.invalidate(hashed(), &evicted_);
+      SetDetached(entry);
     }
 
     // Returns whether the entry has left the cache.
     bool Release(Entry* entry, bool evict) {
       if (evict) {
-        shard_.core.release_and_evict(entry->pin, &evicted_);
+        shard_.core.release_and_evict(entry->pin(), &evicted_);
       } else {
-        shard_.core.release(entry->pin, &evicted_);
+        shard_.core.release(entry->pin(), &evicted_);
       }
       const Entry* left = evicted_.first();
       while (left != nullptr && left != entry) left = left->next;
@@ -326,6 +410,12 @@ class BasicRocksDBCache : public rocksdb::Cache {
 
     // Deletes an entry that is not in the cache, without the mutex.
     void Delete(Entry* entry) { evicted_.add(entry); }
+
+    // The same, but the value stays the caller's.
+    void Refuse(Entry* entry) {
+      entry->deleter.helper = nullptr;
+      Delete(entry);
+    }
 
     // Visits each entry that its key finds, or none if there is no memory for a list of them.
     template <class Visit>
@@ -356,6 +446,8 @@ class BasicRocksDBCache : public rocksdb::Cache {
       if (told.code == LRU_HIT) {
         SetDetached(Core::node_of(told.value));
       } else {
+        // The total would overflow, and the key has no entry.
+        if (shard_.core.contains(hashed) != LRU_DONE) return false;
         // The entry has 2^32 - 1 handles, and is not told.
         ForEachFound([&](Entry& entry) {
           if (entry.key() == key) SetDetached(&entry);
@@ -371,8 +463,13 @@ class BasicRocksDBCache : public rocksdb::Cache {
     const std::lock_guard<detail::Mutex> lock_;
   };
 
-  BasicRocksDBCache(std::size_t capacity, std::size_t shards, bool is_strict)
-      : shards_(shards), capacity_(capacity), is_strict_(is_strict) {}
+  explicit BasicRocksDBCache(const RocksDBCacheOptions& options)
+      : shards_(options.shards != 0
+                    ? options.shards
+                    : ShardsFor(options.capacity, detail::TypicalCharge(options))),
+        charges_metadata_(options.charges_metadata),
+        capacity_(options.capacity),
+        is_strict_(options.strict_capacity_limit) {}
 
   static bool CanStore(const rocksdb::Slice& key) { return detail::CanStore<Key>(key); }
 
@@ -383,37 +480,83 @@ class BasicRocksDBCache : public rocksdb::Cache {
 
   // The hash of bytes serves both the shard and the table there, which hashes it once more, with
   // the seed of the shard.
-  Shard& ShardOf(const HashedKey& hashed) {
+  std::uint8_t ShardOf(const HashedKey& hashed) const {
     if constexpr (std::is_same_v<Key, Words>) {
-      return shards_.Of(static_cast<std::uint32_t>(std::hash<Words>()(hashed)));
+      return shards_.NumberFor(static_cast<std::uint32_t>(std::hash<Words>()(hashed)));
     } else {
       constexpr std::uint64_t kHashes = std::uint64_t{1} << 32;
-      return shards_.Of(static_cast<std::uint32_t>(lru_shard_of(hashed.hash, kHashes)));
+      return shards_.NumberFor(static_cast<std::uint32_t>(lru_shard_of(hashed.hash, kHashes)));
     }
   }
 
   static Handle* HandleOf(Entry* entry) { return reinterpret_cast<Handle*>(entry); }
   static Entry* EntryOf(Handle* handle) { return reinterpret_cast<Entry*>(handle); }
 
+  template <class Callback>
+  static void Visit(const Entry& entry, const Callback& callback) {
+    callback(entry.key(), entry.value, entry.charge, entry.deleter.helper);
+  }
+
+  bool Open(const RocksDBCacheOptions& options, Seed seed) {
+    return shards_.Open(options, Metadata(sizeof(Words)), seed);
+  }
+
+  // What an entry with a key of this length counts besides its charge.
+  std::size_t Metadata(std::size_t length) const {
+    return charges_metadata_ ? detail::MetadataOf<Entry, Key>(length) : 0;
+  }
+
+  // What an entry counts.
+  std::uint64_t WeightOf(const Entry& entry) const {
+    return detail::SumOf(entry.charge, Metadata(entry.key().size()));
+  }
+
+  // Null if there is no memory.
+  Entry* NewEntry(const rocksdb::Slice& key, void* value, Helper helper, std::size_t charge) const {
+    Entry* entry = Entry::New(key, value, {helper});
+    // The library has no entries without a charge.
+    if (entry != nullptr) entry->charge = charge == 0 && !charges_metadata_ ? 1 : charge;
+    return entry;
+  }
+
+  // Insert, which leaves the value to the caller unless it returns OK.
+  rocksdb::Status InsertValue(const rocksdb::Slice& key, void* value, Helper helper,
+                              std::size_t charge, Handle** handle) {
+    if (handle != nullptr) *handle = nullptr;
+    Entry* entry = NewEntry(key, value, helper, charge);
+    if (entry == nullptr) return rocksdb::Status::MemoryLimit();
+    if (CanStore(key)) return InsertEntry(Hashed(key), entry, handle);
+    if (handle == nullptr) {
+      delete entry;
+    } else {
+      *handle = HandleOf(entry);
+    }
+    return rocksdb::Status::OK();
+  }
+
   // Inserts an entry, or deletes it if there is no room for it. `*handle` is null before.
-  rocksdb::Status InsertInto(const HashedKey& hashed, Entry* entry, Handle** handle) {
-    Call call(&ShardOf(hashed));
+  rocksdb::Status InsertEntry(const HashedKey& hashed, Entry* entry, Handle** handle) {
+    entry->shard = ShardOf(hashed);
+    const std::uint64_t weight = WeightOf(*entry);
+    Call call(&shards_[entry->shard]);
     const bool is_strict = is_strict_;
-    if ((is_strict || handle == nullptr) && !call.HasRoom(entry->charge)) {
+    if ((is_strict || handle == nullptr) && !call.HasRoom(weight)) {
       if (handle != nullptr) {
-        entry->deleter = nullptr;  // the value stays the caller's
-      } else if (is_strict) {
+        call.Refuse(entry);
+        return rocksdb::Status::MemoryLimit();
+      }
+      if (is_strict) {
         call.EvictIdle(hashed);
       } else {
         call.EvictIdle();
       }
       call.Delete(entry);
-      return handle == nullptr ? rocksdb::Status::OK() : rocksdb::Status::MemoryLimit();
+      return rocksdb::Status::OK();
     }
-    const bool replaces = call.Add(hashed, entry);
+    const bool replaces = call.Add(hashed, entry, weight);
     if (handle != nullptr) {
       *handle = HandleOf(entry);
-    } else if (entry->shard != nullptr) {
+    } else if (entry->is_cached) {
       call.Release(entry, false);
     } else {
       call.Delete(entry);
@@ -421,7 +564,19 @@ class BasicRocksDBCache : public rocksdb::Cache {
     return replaces ? rocksdb::Status::OkOverwritten() : rocksdb::Status::OK();
   }
 
+  Handle* Find(const rocksdb::Slice& key) {
+    if (!CanStore(key)) return nullptr;
+    const HashedKey hashed = Hashed(key);
+    Shard& shard = shards_[ShardOf(hashed)];
+    const std::lock_guard<detail::Mutex> lock(shard.mutex);
+    const lru_told told = shard.core.get(hashed);
+    // It is a miss too if the entry has 2^32 - 1 handles. If the key is longer than any before and
+    // there is no memory for a copy, it has no entry.
+    return told.code == LRU_HIT ? HandleOf(Core::node_of(told.value)) : nullptr;
+  }
+
   detail::Shards<Shard, kMostShards> shards_;
+  const bool charges_metadata_;
   std::atomic<std::size_t> capacity_;
   std::atomic<bool> is_strict_;
   std::atomic<std::uint64_t> last_id_{0};
@@ -433,9 +588,9 @@ using RocksDBCache = BasicRocksDBCache<std::string_view>;
 // Caches keys of 16 bytes only. Insert returns entries of other keys, but they are not cached.
 using RocksDBBlockCache = BasicRocksDBCache<Words>;
 
-// A RocksDBCache with the given capacity, or null if there is no memory for it; but if there is
-// none for the counts of the std::shared_ptr, the process ends. There are 64 shards, or fewer if
-// the capacity is below 32 MiB, unless their number, from 1 to 64, is passed.
+// A RocksDBCache with the given capacity or options, or null if there is no memory for it; but if
+// there is none for the counts of the std::shared_ptr, the process ends. There are 64 shards, or
+// fewer if the capacity is below 32 MiB, unless their number, from 1 to 64, is passed.
 inline std::shared_ptr<rocksdb::Cache> NewRocksDBCache(std::size_t capacity) noexcept {
   return std::shared_ptr<rocksdb::Cache>(RocksDBCache::New(capacity));
 }
@@ -443,6 +598,11 @@ inline std::shared_ptr<rocksdb::Cache> NewRocksDBCache(
     std::size_t capacity, std::size_t shards, bool strict_capacity_limit = false) noexcept {
   return std::shared_ptr<rocksdb::Cache>(
       RocksDBCache::New(capacity, shards, strict_capacity_limit));
+}
+
+inline std::shared_ptr<rocksdb::Cache> NewRocksDBCache(
+    const RocksDBCacheOptions& options) noexcept {
+  return std::shared_ptr<rocksdb::Cache>(RocksDBCache::New(options));
 }
 
 // The same, for a RocksDBBlockCache.
@@ -453,6 +613,10 @@ inline std::shared_ptr<rocksdb::Cache> NewRocksDBBlockCache(
     std::size_t capacity, std::size_t shards, bool strict_capacity_limit = false) noexcept {
   return std::shared_ptr<rocksdb::Cache>(
       RocksDBBlockCache::New(capacity, shards, strict_capacity_limit));
+}
+inline std::shared_ptr<rocksdb::Cache> NewRocksDBBlockCache(
+    const RocksDBCacheOptions& options) noexcept {
+  return std::shared_ptr<rocksdb::Cache>(RocksDBBlockCache::New(options));
 }
 
 }  // namespace lru

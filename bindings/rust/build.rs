@@ -17,7 +17,11 @@ fn folder(target: &str) -> PathBuf {
     let here = of_cargo("CARGO_MANIFEST_DIR");
     let packaged = Path::new(&here).join("lib");
     if packaged.exists() {
-        packaged.join(target)
+        // The archive calls so little of the C library that musl will do.
+        packaged.join(match target {
+            "x86_64-unknown-linux-musl" => "x86_64-unknown-linux-gnu",
+            _ => target,
+        })
     } else {
         Path::new(&here).join("../c/build")
     }
@@ -31,8 +35,9 @@ fn main() {
     println!("cargo::rerun-if-changed={}", archive.display());
     if !archive.exists() {
         println!(
-            "cargo::error=there is no {}: take the package for {target}, or run \
-             `make -C bindings/c` in the repository, or set LRU_LIB_DIR to the folder of liblru.a",
+            "cargo::error=there is no {} for {target}: packages are for x86_64-unknown-linux-gnu, \
+             also taken for x86_64-unknown-linux-musl, and for aarch64-unknown-linux-gnu. In the \
+             repository, run `make -C bindings/c`, or set LRU_LIB_DIR to the folder of liblru.a",
             archive.display()
         );
         return;

@@ -11,6 +11,7 @@
 #include <cstdio>
 #include <fstream>
 #include <functional>
+#include <future>
 #include <memory>
 #include <mutex>
 #include <optional>
@@ -43,6 +44,10 @@ static_assert(std::is_nothrow_move_constructible_v<Numbers::Handle>);
 static_assert(std::is_nothrow_move_assignable_v<Numbers::Handle>);
 static_assert(!std::is_copy_constructible_v<Numbers::Handle>);
 static_assert(!std::is_copy_assignable_v<Numbers::Handle>);
+static_assert(std::is_nothrow_move_constructible_v<Numbers::Maker>);
+static_assert(std::is_nothrow_move_assignable_v<Numbers::Maker>);
+static_assert(!std::is_copy_constructible_v<Numbers::Maker>);
+static_assert(!std::is_copy_assignable_v<Numbers::Maker>);
 static_assert(!std::is_move_constructible_v<Numbers>);
 static_assert(!std::is_move_constructible_v<lru::ShardedCache<int>>);
 static_assert(!std::is_copy_constructible_v<lru::ShardedCache<int>>);
@@ -50,6 +55,17 @@ static_assert(std::is_base_of_v<std::bad_alloc, lru::OutOfMemory>);
 static_assert(std::is_base_of_v<std::overflow_error, lru::Overflow>);
 static_assert(std::is_base_of_v<std::invalid_argument, lru::ZeroCharge>);
 static_assert(std::is_base_of_v<std::runtime_error, lru::Full>);
+
+// Whether a call throws Full.
+template <class Call>
+bool is_full(Call call) {
+  try {
+    call();
+  } catch (const lru::Full&) {
+    return true;
+  }
+  return false;
+}
 
 void a_present_value_is_not_made_again() {
   Numbers cache(10);
@@ -338,17 +354,35 @@ void contains_and_len_look_only() {
   looks_only<lru::Cache<int>, std::string_view>("one", "two", "three");
 }
 
-void read_passes_a_pinned_value() {
+// Whether another thread finds the lock of a cache held, for as long as this waits.
+template <class Cache>
+bool is_locked(const Cache& cache, std::future<std::uint64_t>* other) {
+  *other = std::async(std::launch::async, [&cache] { return cache.len(); });
+  return other->wait_for(std::chrono::milliseconds(20)) == std::future_status::timeout;
+}
+
+void read_passes_a_value_under_the_lock() {
   Numbers cache(2);
   CHECK(!cache.read(key(1), [](const int&) { return 7; }));
-  cache.insert(key(1), 2, 5);
-  const std::optional<std::uint64_t> pinned = cache.read(key(1), [&](const int& number) {
-    // No lock is held, and the value stays.
-    cache.prune();
-    return cache.pinned_charge() + static_cast<std::uint64_t>(number);
+  cache.insert(key(1), 1, 5);
+  std::future<std::uint64_t> other;
+  const std::optional<int> seen = cache.read(key(1), [&](const int& number) {
+    CHECK(is_locked(cache, &other));
+    return number + 2;
   });
-  CHECK(pinned == 7u && cache.pinned_charge() == 0);
-  // A void reader, and one that throws: the pin is given back.
+  CHECK(seen == 7 && other.get() == 1 && cache.pinned_charge() == 0);
+  // It is a use: the other value is the oldest then. A value with a handle keeps its pin.
+  const auto held = cache.insert(key(2), 1, 6);
+  CHECK(cache.read(key(2), [](const int& number) { return number; }) == 6);
+  CHECK(cache.pinned_charge() == 1 && cache.stats().hits == 2 && cache.stats().misses == 1);
+  Numbers both(2);
+  both.insert(key(1), 1, 1);
+  both.insert(key(2), 1, 2);
+  CHECK(both.read(key(1), [](const int& number) { return number; }) == 1);
+  both.insert(key(3), 1, 3);
+  CHECK(both.contains(key(1)) && !both.contains(key(2)));
+
+  // A void reader, and one that throws: the lock is released, and no pin is left.
   lru::Cache<std::string> texts(10);
   const auto append = [](std::string& text) { text += "!"; };
   CHECK(!texts.read("a", append));
@@ -558,6 +592,291 @@ void all_that_wait_are_woken_however_the_making_ends() {
   }
 }
 
+// A value that records its number in `deleted` when it is deleted, and cannot be moved.
+struct Recorded {
+  Recorded(std::vector<int>* d, int n) : deleted(d), number(n) {}
+  ~Recorded() { deleted->push_back(number); }
+
+  Recorded(const Recorded&) = delete;
+  Recorded& operator=(const Recorded&) = delete;
+
+  std::vector<int>* deleted;
+  int number;
+};
+
+void a_beginning_tells_a_handle_or_a_maker() {
+  Numbers cache(10);
+  {
+    auto [handle, maker] = cache.begin(key(1), 3);
+    CHECK(!handle && maker && cache.pinned_charge() == 3 && !cache.contains(key(1)));
+    handle = maker.ready(7);
+    CHECK(*handle == 7 && !maker && cache.contains(key(1)) && cache.pinned_charge() == 3);
+  }
+  CHECK(cache.pinned_charge() == 0 && cache.stats().misses == 1);
+  for (const bool waits : {true, false}) {
+    auto begun = waits ? cache.begin(key(1), 9) : cache.try_begin(key(1), 9);
+    CHECK(begun.handle && *begun.handle == 7 && !begun.maker && cache.total_charge() == 3);
+  }
+  CHECK(cache.stats().hits == 2);
+
+  // A maker that is destroyed, or told to, fails.
+  { auto begun = cache.begin(key(2), 2); }
+  CHECK(cache.len() == 1 && cache.stats().removals == 1);
+  auto begun = cache.try_begin(key(2), 2);
+  begun.maker.fail();
+  CHECK(!begun.maker && cache.len() == 1 && cache.stats().removals == 2);
+  begun.maker.fail();
+  bool is_refused = false;
+  try {
+    begun.maker.ready(1);
+  } catch (const std::logic_error& error) {
+    is_refused = std::string_view(error.what()) == "lru: ready is called on an empty maker";
+  }
+  CHECK(is_refused && cache.stats().removals == 2);
+
+  int zero = 0;
+  for (const std::uint64_t n : {1, 2}) {
+    try {
+      n == 1 ? cache.begin(key(n), 0) : cache.try_begin(key(n), 0);
+    } catch (const lru::ZeroCharge&) {
+      zero++;
+    }
+  }
+  Numbers strict(1, lru::Limit::kStrict);
+  CHECK(zero == 2 && cache.len() == 1);
+  CHECK(is_full([&] { strict.begin(key(1), 2); }) && is_full([&] { strict.try_begin(key(1), 2); }));
+}
+
+void a_maker_makes_its_value_in_place() {
+  std::vector<int> deleted;
+  lru::Cache<Recorded> cache(10);
+  CHECK(cache.begin("one", 1).maker.ready(&deleted, 1)->number == 1);
+  CHECK(deleted.empty() && cache.get("one")->number == 1);
+  lru::Cache<std::atomic<int>> counters(10);
+  CHECK(*counters.begin("one", 1).maker.ready(5) == 5);
+  lru::Cache<std::unique_ptr<int>> owners(10);
+  auto owner = std::make_unique<int>(3);
+  CHECK(**owners.begin("one", 1).maker.ready(std::move(owner)) == 3 && !owner);
+  CHECK(!*owners.begin("none", 1).maker.ready());
+
+  // The constructor throws: the maker can be asked again.
+  struct Even {
+    explicit Even(int n) : number(n) {
+      if (n % 2 != 0) throw std::runtime_error("odd");
+    }
+    int number;
+  };
+  lru::Cache<Even> evens(10);
+  auto begun = evens.begin("n", 1);
+  bool thrown = false;
+  try {
+    begun.maker.ready(3);
+  } catch (const std::runtime_error&) {
+    thrown = true;
+  }
+  CHECK(thrown && begun.maker && evens.pinned_charge() == 1);
+  CHECK(begun.maker.ready(4)->number == 4 && evens.stats().removals == 0);
+}
+
+void makers_move() {
+  Numbers cache(10);
+  Numbers::Maker one = cache.begin(key(1), 1).maker;
+  Numbers::Maker two = cache.begin(key(2), 1).maker;
+  Numbers::Maker three = cache.begin(key(3), 1).maker;
+  Numbers::Maker moved = std::move(two);
+  CHECK(!two && moved && cache.len() == 3);
+  Numbers::Maker& same = moved;
+  moved = std::move(same);
+  CHECK(moved && cache.len() == 3);
+  // One that has a duty fails when it is given another, and may have a new one later.
+  one = std::move(moved);
+  CHECK(one && !moved && cache.len() == 2);
+  moved = Numbers::Maker();
+  two = std::move(one);
+  std::vector<Numbers::Maker> all;
+  all.push_back(std::move(three));
+  all.push_back(std::move(two));
+  all.push_back(cache.begin(key(4), 1).maker);
+  all.erase(all.begin());
+  CHECK(cache.len() == 2 && !cache.try_begin(key(2), 1).maker && cache.begin(key(3), 1).maker);
+  // The cache knows them all where they are: no key finds what they make after a `clear`.
+  cache.clear();
+  CHECK(*all[0].ready(2) == 2 && *all[1].ready(4) == 4);
+  CHECK(cache.len() == 0 && cache.stats().removals == 3);
+}
+
+void a_try_never_waits() {
+  Numbers cache(10);
+  auto first = cache.begin(key(1), 3);
+  for (int n = 0; n < 3; n++) {
+    const auto begun = cache.try_begin(key(1), 4);
+    CHECK(!begun.handle && !begun.maker);
+  }
+  CHECK(cache.total_charge() == 3 && cache.stats().waits == 3 && cache.stats().misses == 1);
+  // They have left no pin: what fails is removed, and what is made is idle without its handle.
+  first.maker.fail();
+  CHECK(cache.len() == 0 && cache.stats().removals == 1);
+  first = cache.try_begin(key(1), 3);
+  CHECK(first.maker && !cache.try_begin(key(1), 4).maker);
+  first.maker.ready(7).release_and_evict();
+  CHECK(cache.len() == 0 && cache.stats().evictions == 1);
+}
+
+// With others that wait: these get the value, or make it.
+void a_try_leaves_those_that_wait_alone() {
+  for (const bool fails : {false, true}) {
+    Numbers cache(10);
+    auto first = cache.begin(key(1), 3);
+    std::atomic<bool> has_made{false};
+    std::thread waiting([&] {
+      auto [handle, maker] = cache.begin(key(1), 3);
+      has_made = static_cast<bool>(maker);
+      if (maker) handle = maker.ready(8);
+      CHECK(*handle == (fails ? 8 : 7));
+    });
+    wait_for_waits(cache, 1);
+    CHECK(!cache.try_begin(key(1), 3).maker && !cache.try_begin(key(1), 3).handle);
+    CHECK(!has_made && cache.len() == 1);
+    if (fails) {
+      first.maker.fail();
+    } else {
+      CHECK(*first.maker.ready(7) == 7);
+    }
+    waiting.join();
+    CHECK(has_made == fails && cache.pinned_charge() == 0 && cache.contains(key(1)));
+  }
+}
+
+template <class Cache>
+void passes_makers(Cache& cache) {
+  auto begun = cache.begin(key(1), 1);
+  std::atomic<int> right{0};
+  std::vector<std::thread> threads;
+  for (int t = 0; t < 4; t++) {
+    threads.emplace_back([&] { right += *cache.get_or_init(key(1), 1, returns(8)) == 7; });
+  }
+  wait_for_waits(cache, 4);
+  CHECK(!cache.try_begin(key(1), 1).maker);
+  threads.emplace_back([&right, maker = std::move(begun.maker)]() mutable {
+    right += *maker.ready(7) == 7;
+  });
+  for (std::thread& thread : threads) thread.join();
+  CHECK(right == 5 && cache.pinned_charge() == 0 && *cache.begin(key(1), 1).handle == 7);
+
+  // Many threads move makers, while another clears the cache.
+  std::atomic<bool> is_over{false};
+  std::thread clearing([&] {
+    while (!is_over) cache.clear();
+  });
+  threads.clear();
+  for (std::uint64_t t = 0; t < 4; t++) {
+    threads.emplace_back([&, t] {
+      for (std::uint64_t n = 0; n < 200; n++) {
+        auto maker = cache.try_begin(key(10 + t), 1).maker;
+        if (!maker) continue;
+        auto moved = std::move(maker);
+        if (n % 4 != 0) moved.ready(static_cast<int>(n));
+      }
+    });
+  }
+  for (std::thread& thread : threads) thread.join();
+  is_over = true;
+  clearing.join();
+  cache.clear();
+  CHECK(cache.len() == 0 && cache.pinned_charge() == 0);
+}
+
+void makers_go_to_other_threads() {
+  Numbers cache(10);
+  passes_makers(cache);
+  lru::ShardedCache<const int, lru::Words> sharded(100, 4);
+  passes_makers(sharded);
+}
+
+void loads_are_counted() {
+  using Clock = std::chrono::steady_clock;
+  using std::chrono::milliseconds;
+  const auto wait = [] { std::this_thread::sleep_for(milliseconds(20)); };
+  // Deleting a value takes long, and is no part of a load.
+  struct Slow {
+    explicit Slow(int n) : number(n) {}
+    ~Slow() { std::this_thread::sleep_for(milliseconds(50)); }
+    int number;
+  };
+  lru::Cache<Slow, lru::Words> cache(2);
+  cache.set_load_times(true);
+  const auto took = [&](auto call) {
+    const lru::Stats before = cache.stats();
+    const Clock::time_point start = Clock::now();
+    call();
+    const std::chrono::nanoseconds all = Clock::now() - start;
+    const lru::Stats after = cache.stats();
+    const auto load = static_cast<std::int64_t>(after.load_nanoseconds - before.load_nanoseconds);
+    CHECK(load >= 0 && load <= all.count());
+    CHECK(after.loads - before.loads <= 1 && after.load_failures - before.load_failures <= 1);
+    return std::pair(std::chrono::nanoseconds(load), all);
+  };
+  const auto slowly = [&](lru::Words) { return wait(), 1; };
+  CHECK(took([&] { cache.get_or_init(key(1), 1, slowly); }).first >= milliseconds(20));
+  CHECK(cache.stats().loads == 1 && cache.stats().load_failures == 0);
+  // A hit, an insert and a `get` are no loads.
+  const auto none = took([&] {
+    cache.get_or_init(key(1), 1, slowly);
+    cache.get(key(3));
+    cache.insert(key(2), 1, 2);
+  });
+  CHECK(none.first == milliseconds(0) && cache.stats().loads == 1);
+  const auto failed = took([&] {
+    try {
+      cache.get_or_init(key(3), 1, [&](lru::Words) -> int {
+        wait();
+        throw std::runtime_error("no value");
+      });
+    } catch (const std::runtime_error&) {
+    }
+  });
+  // It evicted a value first.
+  CHECK(failed.first >= milliseconds(20) && failed.first + milliseconds(50) <= failed.second);
+  CHECK(cache.stats().loads == 1 && cache.stats().load_failures == 1);
+
+  // Of a maker, the time until it ends.
+  const auto made = took([&] {
+    auto begun = cache.begin(key(4), 1);
+    wait();
+    begun.maker.ready(1);
+  });
+  const auto given_up = took([&] {
+    auto begun = cache.try_begin(key(5), 1);
+    auto moved = std::move(begun.maker);
+    wait();
+  });
+  CHECK(made.first >= milliseconds(20) && given_up.first >= milliseconds(20));
+  CHECK(cache.stats().loads == 2 && cache.stats().load_failures == 2);
+
+  // Who waits loads nothing.
+  auto first = cache.begin(key(6), 1);
+  std::thread waiting([&] { cache.get_or_init(key(6), 1, slowly); });
+  wait_for_waits(cache, 1);
+  wait();
+  first.maker.ready(1);
+  waiting.join();
+  CHECK(cache.stats().loads == 3);
+
+  // Times are measured only while that is asked for.
+  cache.set_load_times(false);
+  CHECK(took([&] { cache.get_or_init(key(7), 1, slowly); }).first == milliseconds(0));
+  CHECK(cache.stats().loads == 4);
+
+  lru::ShardedCache<const int, lru::Words> sharded(100, 4);
+  sharded.set_load_times(true);
+  for (std::uint64_t n = 0; n < 8; n++) {
+    auto begun = sharded.begin(key(n), 1);
+    if (n % 4 != 0) begun.maker.ready(1);
+  }
+  const lru::Stats sum = sharded.stats();
+  CHECK(sum.loads == 6 && sum.load_failures == 2 && sum.load_nanoseconds > 0);
+}
+
 // The folder in which Linux tells about the calling thread.
 std::string folder_of_this_thread() {
   char path[64];
@@ -703,17 +1022,6 @@ struct BySecond {
   std::size_t operator()(lru::Words k) const { return static_cast<std::size_t>(k.second); }
 };
 
-// Whether a call throws Full.
-template <class Call>
-bool is_full(Call call) {
-  try {
-    call();
-  } catch (const lru::Full&) {
-    return true;
-  }
-  return false;
-}
-
 void a_strict_limit_has_no_room_beside_pinned_values() {
   Numbers cache(10, lru::Limit::kStrict);
   CHECK(cache.is_limit_strict() && !Numbers(10).is_limit_strict());
@@ -835,18 +1143,6 @@ void a_visit_may_throw() {
   // The lock was released.
   CHECK(visits == 2 && cache.len() == 3);
 }
-
-// A value that records its number in `deleted` when it is deleted, and cannot be moved.
-struct Recorded {
-  Recorded(std::vector<int>* d, int n) : deleted(d), number(n) {}
-  ~Recorded() { deleted->push_back(number); }
-
-  Recorded(const Recorded&) = delete;
-  Recorded& operator=(const Recorded&) = delete;
-
-  std::vector<int>* deleted;
-  int number;
-};
 
 template <class Key, class KeyOf>
 void clears(KeyOf key_of) {
@@ -1015,6 +1311,246 @@ void every_shard_is_cleared() {
   CHECK(cache.len() == 1 && !cache.contains("43") && *held == 43);
 }
 
+// What a listener has been told, as `key=value reason`, one after another.
+struct Told {
+  template <class Key, class Value>
+  void operator()(const Key& key, const Value& value, lru::Reason reason) {
+    const char* const names[] = {"evicted", "invalidated", "replaced", "cleared"};
+    text += text.empty() ? "" : ", ";
+    text += key + "=" + std::to_string(value) + " " + names[static_cast<int>(reason)];
+  }
+  // And forgets it.
+  std::string take() { return std::exchange(text, ""); }
+
+  std::string text;
+};
+
+// The caches have room for three values of charge 1, and one shard.
+template <class Make>
+void tells(Make make) {
+  Told told;
+  {
+    auto owner = make([&told](auto key, const int& value, lru::Reason reason) {
+      told(std::string(key), value, reason);
+    });
+    auto& cache = *owner;
+    const auto init = [&](const char* key, int value) {
+      return cache.get_or_init(key, 1, [value](std::string_view) { return value; });
+    };
+    for (const char* key : {"a", "b", "c", "a"}) init(key, 1);
+    CHECK(told.take().empty());
+    // To make room, oldest first; also when the last handle goes, or the capacity is set.
+    init("d", 2);
+    cache.insert("e", 2, 3);
+    CHECK(told.take() == "b=1 evicted, c=1 evicted, a=1 evicted");
+    {
+      const auto one = init("f", 4), two = init("g", 5), three = init("h", 6), four = init("i", 7);
+      CHECK(told.take() == "d=2 evicted, e=3 evicted");
+    }
+    CHECK(told.take() == "i=7 evicted");
+    cache.set_capacity(2);
+    cache.advice_evict("g");
+    init("f", 0).release_and_evict();
+    cache.set_capacity(3);
+    init("j", 8);
+    cache.prune();
+    CHECK(told.take() == "h=6 evicted, g=5 evicted, f=4 evicted, j=8 evicted");
+
+    // By a call, whether the value is idle or has a handle.
+    init("a", 1);
+    auto held = init("b", 2);
+    const lru::Stats before = cache.stats();
+    cache.invalidate("none");
+    cache.invalidate("a");
+    cache.invalidate("b");
+    const lru::Stats after = cache.stats();
+    CHECK(after.hits == before.hits && after.misses == before.misses);
+    CHECK(told.take() == "a=1 invalidated");
+    cache.insert("b", 1, 3);
+    held.reset();
+    CHECK(told.take() == "b=2 invalidated");
+    held = init("c", 4);
+    CHECK(cache.erase_if([](auto&&...) { return true; }) == 2);
+    CHECK(told.take() == "b=3 invalidated");
+    held.release_and_evict();
+    CHECK(told.take() == "c=4 invalidated");
+    cache.insert("a", 1, 1);
+    cache.insert("b", 1, 2);
+    cache.insert("a", 2, 3);
+    held = cache.insert("a", 2, 4);
+    CHECK(told.take() == "a=1 replaced, a=3 replaced");
+    auto again = held.clone();
+    cache.insert("a", 1, 5);
+    cache.invalidate("a");
+    held.reset();
+    CHECK(told.take() == "b=2 evicted, a=5 invalidated");
+    again.reset();
+    CHECK(told.take() == "a=4 replaced");
+    held = cache.insert("a", 1, 6);
+    cache.insert("a", 1, 7);
+    cache.insert("b", 1, 8);
+    again = cache.get("b");
+    cache.clear();
+    CHECK(told.take() == "a=7 cleared");
+    held.release_and_evict();
+    again.reset();
+    CHECK(told.take() == "a=6 replaced, b=8 cleared");
+
+    // A value whose key was taken away while it was made.
+    for (int call = 0; call < 3; call++) {
+      auto [handle, maker] = cache.begin("a", 1);
+      if (call == 0) cache.invalidate("a");
+      if (call == 1) cache.clear();
+      if (call == 2) cache.insert("a", 1, 2);
+      auto moved = std::move(maker);
+      handle = moved.ready(1);
+      handle.reset();
+      CHECK(told.take() == "a=1 invalidated");
+    }
+    cache.clear();
+    CHECK(told.take() == "a=2 cleared");
+
+    // What the cache did not keep is not told.
+    try {
+      cache.insert("a", 0, 1);
+    } catch (const lru::ZeroCharge&) {
+    }
+    { auto begun = cache.begin("a", 1); }
+    CHECK(told.take().empty());
+    cache.begin("a", 1).maker.ready(1);
+    cache.insert("b", 1, 2);
+  }
+  CHECK(told.take() == "a=1 cleared, b=2 cleared");
+}
+
+void a_listener_is_told_what_leaves() {
+  tells([](auto listener) { return std::make_unique<lru::Cache<int>>(3, listener); });
+  tells([](auto listener) {
+    return std::make_unique<lru::ShardedCache<int>>(3, std::size_t{1}, listener);
+  });
+  tells([](auto listener) {
+    return std::make_unique<lru::Cache<int, std::string>>(3, listener, lru::Limit::kNotStrict,
+                                                          lru::Seed(1));
+  });
+
+  // All shards tell one function. Keys are shown as for_each shows them.
+  Told told;
+  {
+    lru::ShardedCache<int, int> shards(400, 4, [&told](int k, int value, lru::Reason reason) {
+      told(std::to_string(k), value, reason);
+    });
+    for (const int n : {1, 2, 3, 4}) shards.insert(n, 1, 10 * n);
+    for (const int n : {4, 3, 2, 1}) shards.invalidate(n);
+    CHECK(told.take() == "4=40 invalidated, 3=30 invalidated, 2=20 invalidated, 1=10 invalidated");
+    shards.insert(5, 1, 50);
+  }
+  CHECK(told.take() == "5=50 cleared");
+  struct Counting {
+    void operator()(int, const int&, lru::Reason) { ++*count; }
+    std::shared_ptr<int> count;
+  };
+  auto count = std::make_shared<int>(0);
+  lru::ShardedCache<int, int> counting(400, 4, Counting{count});
+  CHECK(count.use_count() == 2);
+  counting.insert(1, 1, 1);
+  counting.prune();
+  CHECK(*count == 1);
+  lru::Cache<int> untold(10, nullptr);
+  untold.insert("a", 1, 1);
+  untold.clear();
+  CHECK(untold.len() == 0);
+}
+
+// A strict limit, and an `insert` that is refused: the old value is as old as before.
+void a_listener_changes_no_answer() {
+  Told told;
+  Numbers cache(
+      3, [&told](lru::Words k, const int& value, lru::Reason reason) {
+        told(std::to_string(k.second), value, reason);
+      },
+      lru::Limit::kStrict);
+  for (const std::uint64_t n : {1u, 2u, 3u}) cache.insert(key(n), 1, static_cast<int>(n));
+  CHECK(cache.is_limit_strict() && is_full([&] { cache.insert(key(1), 4, 4); }));
+  cache.insert(key(4), 1, 4);
+  CHECK(told.take() == "1=1 evicted");
+  const auto held = cache.get(key(2));
+  CHECK(is_full([&] { cache.insert(key(2), 3, 5); }) && told.take().empty());
+  cache.advice_evict(key(2));
+  CHECK(told.take().empty() && cache.contains(key(2)));
+}
+
+// It is called before the value is deleted, and may take long and call the cache.
+void a_listener_runs_without_the_lock() {
+  std::vector<int> deleted;
+  std::vector<std::uint64_t> seen;
+  lru::Cache<Recorded, lru::Words>* calls = nullptr;
+  lru::Cache<Recorded, lru::Words> cache(2, [&](lru::Words k, const Recorded& value, auto) {
+    if (calls == nullptr) return;
+    CHECK(deleted.size() == seen.size() && static_cast<std::uint64_t>(value.number) == k.second);
+    CHECK(std::async(std::launch::async, [&] { return calls->len(); }).get() <= 2);
+    calls->advice_evict(key(100));
+    seen.push_back(k.second);
+  });
+  calls = &cache;
+  const auto make = [&](std::uint64_t n) {
+    return cache.begin(key(n), 1).maker.ready(&deleted, static_cast<int>(n));
+  };
+  for (std::uint64_t n = 1; n <= 4; n++) make(n);
+  make(5).release_and_evict();
+  cache.invalidate(key(4));
+  CHECK((seen == std::vector<std::uint64_t>{1, 2, 3, 5, 4}));
+  make(6);
+  cache.prune();
+  make(7);
+  cache.set_capacity(0);
+  CHECK((seen == std::vector<std::uint64_t>{1, 2, 3, 5, 4, 6, 7}) && deleted.size() == 7);
+  calls = nullptr;
+}
+
+void a_cache_goes_on_if_its_listener_throws() {
+  std::vector<int> deleted;
+  int calls = 0;
+  {
+    lru::Cache<Recorded, lru::Words> cache(10, [&](auto&&...) {
+      calls++;
+      throw std::runtime_error("unheard");
+    });
+    const auto make = [&](int n) {
+      return cache.begin(key(static_cast<std::uint64_t>(n)), 1).maker.ready(&deleted, n);
+    };
+    for (int n = 1; n <= 3; n++) make(n);
+    auto held = make(4);
+    cache.prune();
+    CHECK(calls == 3 && (deleted == std::vector<int>{1, 2, 3}));
+    cache.invalidate(key(4));
+    held.reset();
+    make(5);
+    cache.clear();
+    CHECK(calls == 5 && (deleted == std::vector<int>{1, 2, 3, 4, 5}) && cache.len() == 0);
+    make(6);
+  }
+  CHECK(calls == 6 && deleted.size() == 6);
+}
+
+void room_is_made_or_refused() {
+  const auto is_refused = [](auto&& cache) {
+    try {
+      cache.reserve(SIZE_MAX);
+    } catch (const lru::OutOfMemory&) {
+      return cache.len() == 1;
+    }
+    return false;
+  };
+  Numbers cache(10);
+  cache.insert(key(1), 1, 1);
+  lru::ShardedCache<const int, lru::Words> sharded(10, 4);
+  sharded.insert(key(1), 1, 1);
+  CHECK(is_refused(cache) && is_refused(sharded));
+  cache.reserve(1000);
+  sharded.reserve(1000);
+  CHECK(*cache.get(key(1)) == 1 && *sharded.get(key(1)) == 1 && cache.capacity() == 10);
+}
+
 void shards_have_equal_shares() {
   using Sharded = lru::ShardedCache<const int, lru::Words, BySecond>;
   CHECK(Sharded(10, 3).capacity() == 12);
@@ -1065,6 +1601,13 @@ void a_small_cache_has_few_shards() {
   };
   CHECK(kept(Sharded(30)) == 10 && kept(Sharded(30, lru::Seed(1))) == 10);
   CHECK(kept(Sharded(30, 1)) == 10 && kept(Sharded(30, 16)) == 0);
+  // By default 16 shards of 188; for charges of 300, one.
+  const auto keeps = [](Sharded&& cache) {
+    for (std::uint64_t n = 0; n < 20; n++) cache.insert(key(n), 300, 1);
+    return cache.len();
+  };
+  CHECK(keeps(Sharded(3000)) == 0 && keeps(Sharded(3000, lru::TypicalCharge(300))) == 10);
+  CHECK(Sharded(1001, lru::TypicalCharge(8)).capacity() == 1002);
   // 16 shards of 63, and 15 of 34.
   CHECK(Sharded(1000).capacity() == 1008 && Sharded(500).capacity() == 510);
 }
@@ -1098,35 +1641,95 @@ void high_bits_of_a_key_choose_its_shard_too() {
   CHECK(firsts.size() == 16 && seconds.size() == 16);
 }
 
-// Whether a process that does this is ended by `abort`.
+// What a process that does this writes to standard error, if `abort` ends it.
 template <class Action>
-bool aborts(Action action) {
+std::string last_words(Action action) {
+  int ends[2];
+  CHECK(pipe(ends) == 0);
   const pid_t child = fork();
   if (child == 0) {
-    if (std::freopen("/dev/null", "w", stderr) == nullptr) _exit(2);
+    dup2(ends[1], 2);
     action();
     _exit(0);
   }
+  close(ends[1]);
+  std::string words;
+  char part[512];
+  for (ssize_t n; (n = read(ends[0], part, sizeof part)) > 0;) {
+    words.append(part, static_cast<std::size_t>(n));
+  }
+  close(ends[0]);
   int status = 0;
   CHECK(child > 0 && waitpid(child, &status, 0) == child);
-  return WIFSIGNALED(status) && WTERMSIG(status) == SIGABRT;
+  return WIFSIGNALED(status) && WTERMSIG(status) == SIGABRT ? words : "";
+}
+
+bool has(const std::string& text, const char* part) {
+  return text.find(part) != std::string::npos;
 }
 
 void a_handle_that_outlives_its_cache_is_asserted_against() {
   const auto outlives = [](auto take) {
-    return aborts([&] {
+    const std::string words = last_words([&] {
       auto cache = std::make_unique<Numbers>(10);
       cache->insert(key(1), 1, 1);
-      const Numbers::Handle handle = take(*cache);
+      const auto taken = take(*cache);
       cache.reset();
       _exit(1);
     });
+    return has(words, "lru: a handle or a maker outlives its cache");
   };
   CHECK(outlives([](Numbers& cache) { return cache.get(key(1)); }));
   CHECK(outlives([](Numbers& cache) { return cache.get(key(1)).clone(); }));
   CHECK(outlives([](Numbers& cache) { return cache.insert(key(1), 1, 2); }));
   CHECK(outlives([](Numbers& cache) { return cache.get_or_init(key(1), 1, returns(2)); }));
   CHECK(outlives([](Numbers& cache) { return cache.get_or_init(key(2), 1, returns(2)); }));
+  CHECK(outlives([](Numbers& cache) { return cache.begin(key(1), 1).handle; }));
+  CHECK(outlives([](Numbers& cache) { return cache.begin(key(2), 1).maker; }));
+  CHECK(outlives([](Numbers& cache) { return cache.try_begin(key(2), 1).maker; }));
+}
+
+// A value whose destructor makes a call.
+struct Caller {
+  explicit Caller(std::function<void()> c) : call(std::move(c)) {}
+  ~Caller() { call(); }
+
+  Caller(const Caller&) = delete;
+  Caller& operator=(const Caller&) = delete;
+
+  std::function<void()> call;
+};
+
+// The value is in one shard, and the key that its destructor asks for is of another, which a deque
+// of libstdc++ destroys later.
+template <class Cache, class... More>
+void names_the_rule(const More&... more) {
+  const auto names = [&](auto call) {
+    const std::string words = last_words([&] {
+      const auto cache = std::make_unique<Cache>(100, more...);
+      cache->begin(key(1), 1).maker.ready([&] { call(*cache, key(0)); });
+      cache->~Cache();
+      _exit(1);
+    });
+    return has(words, "lru: the destructor of a value calls the cache that is destroyed");
+  };
+  CHECK(names([](Cache& cache, lru::Words k) { cache.get(k); }));
+  CHECK(names([](Cache& cache, lru::Words k) { cache.begin(k, 1); }));
+  CHECK(names([](Cache& cache, lru::Words k) { cache.insert(k, 1, [] {}); }));
+  CHECK(names([](Cache& cache, lru::Words k) { cache.read(k, [](const Caller&) {}); }));
+  CHECK(names([](Cache& cache, lru::Words k) { cache.contains(k); }));
+  CHECK(names([](Cache& cache, lru::Words k) { cache.invalidate(k); }));
+  CHECK(names([](Cache& cache, lru::Words k) { cache.advice_evict(k); }));
+}
+
+void a_destructor_that_calls_a_cache_that_is_destroyed_is_told_the_rule() {
+  using Cache = lru::Cache<Caller, lru::Words>;
+  using Sharded = lru::ShardedCache<Caller, lru::Words, BySecond>;
+  const Cache::Listener listener = [](auto&&...) {};
+  names_the_rule<Cache>();
+  names_the_rule<Cache>(listener);
+  names_the_rule<Sharded>(std::size_t{4});
+  names_the_rule<Sharded>(std::size_t{4}, listener);
 }
 
 void values_may_be_move_only_or_neither() {
@@ -1154,13 +1757,20 @@ int main() {
   an_insert_replaces_whatever_is_there();
   an_invalidate_takes_a_value_away();
   contains_and_len_look_only();
-  read_passes_a_pinned_value();
+  read_passes_a_value_under_the_lock();
   the_pinned_charge_is_that_of_handles_and_makings();
   calls_are_counted();
   a_making_that_is_invalidated_is_not_waited_for();
   others_wait_for_one_making();
   one_that_waits_takes_a_failed_making_over();
   all_that_wait_are_woken_however_the_making_ends();
+  a_beginning_tells_a_handle_or_a_maker();
+  a_maker_makes_its_value_in_place();
+  makers_move();
+  a_try_never_waits();
+  a_try_leaves_those_that_wait_alone();
+  makers_go_to_other_threads();
+  loads_are_counted();
   a_making_wakes_only_those_that_wait_for_it();
   other_keys_are_served_while_a_value_is_made();
   a_destructor_may_call_the_cache();
@@ -1175,12 +1785,18 @@ int main() {
   what_a_predicate_chooses_is_erased();
   a_predicate_that_throws_erases_nothing();
   every_shard_is_cleared();
+  a_listener_is_told_what_leaves();
+  a_listener_changes_no_answer();
+  a_listener_runs_without_the_lock();
+  a_cache_goes_on_if_its_listener_throws();
+  room_is_made_or_refused();
   shards_have_equal_shares();
   a_small_cache_has_few_shards();
   a_seed_changes_no_answer();
   high_bits_of_a_key_choose_its_shard_too();
   a_handle_that_outlives_its_cache_is_asserted_against();
+  a_destructor_that_calls_a_cache_that_is_destroyed_is_told_the_rule();
   values_may_be_move_only_or_neither();
-  std::printf("lru.hpp: 40 tests, %d checks failed\n", failed_checks);
+  std::printf("lru.hpp: 53 tests, %d checks failed\n", failed_checks);
   return failed_checks == 0 ? 0 : 1;
 }

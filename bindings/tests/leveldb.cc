@@ -4,6 +4,7 @@
 #include <cstdint>
 #include <cstdio>
 #include <cstdlib>
+#include <cstring>
 #include <memory>
 #include <string>
 #include <vector>
@@ -12,6 +13,7 @@
 #include "leveldb/db.h"
 #include "leveldb/options.h"
 #include "leveldb_cache.h"
+#include "memory_of_entries.hpp"
 
 namespace {
 
@@ -162,6 +164,23 @@ bool IsAs(const Outcome& own, const Outcome& proved) {
          proved.hits > 0 && proved.inserts > 0;
 }
 
+// Entries with keys of this many bytes.
+template <class Cache, std::size_t kLength>
+bool IsSmall(const char* name, std::size_t most) {
+  return TakesLittleMemory<lru::BlockCacheOptions>(
+      name, most,
+      [](const lru::BlockCacheOptions& options) {
+        return std::unique_ptr<Cache>(Cache::New(options));
+      },
+      [](Cache* cache, std::uint64_t n) {
+        char key[kLength] = {};
+        std::memcpy(key, &n, sizeof n);
+        cache->Release(cache->Insert(leveldb::Slice(key, kLength), nullptr,
+                                     MemoryOfEntries::kCharge, nullptr));
+      },
+      [](Cache* cache) { return cache->TotalCharge(); });
+}
+
 }  // namespace
 
 int main(int argc, char** argv) {
@@ -170,8 +189,9 @@ int main(int argc, char** argv) {
     return 2;
   }
   const std::string path = argv[1];
+  bool good = IsSmall<lru::LevelDBBlockCache, 16>("LevelDBBlockCache", 242);
+  good &= IsSmall<lru::LevelDBCache, 20>("LevelDBCache", 306);
   Fill(path);
-  bool good = true;
   std::string hits;
   for (const std::size_t kibibytes : {256u, 1024u, 8192u}) {
     const std::size_t capacity = kibibytes << 10;

@@ -266,6 +266,52 @@ void KeepsFewBlocks() {
   CHECK(Kept(blocks(1 << 20, Cache::ShardsFor(1 << 20, 64 << 10)), charge) == 12);
 }
 
+// An entry counts its memory too, if the cache is asked to charge it.
+void ChargesItsMemory() {
+  lru::BlockCacheOptions options;
+  options.capacity = 1000000;
+  options.shards = 1;
+  options.charges_metadata = true;
+  const Tested blocks(lru::NewLevelDBBlockCache(options), true);
+  blocks.Put("a", "1", 0);
+  const std::size_t each = blocks->TotalCharge();
+  CHECK(each > 200 && each < 300);
+  blocks.Put("b", "1", 5);
+  CHECK(blocks->TotalCharge() == 2 * each + 5);
+  // A longer key takes more, and is charged more.
+  const Tested any(lru::NewLevelDBCache(options), false);
+  any.Put(std::string(16, 'a'), "1", 0);
+  const std::size_t of_16 = any->TotalCharge();
+  any.Put(std::string(1016, 'a'), "1", 0);
+  CHECK(of_16 > each && any->TotalCharge() >= 2 * (of_16 + 1000));
+  Handle* large = any.Insert("b", "1", SIZE_MAX);
+  CHECK(any.Get("b") == "none");
+  any->Release(large);
+  // Two entries fit, and not three.
+  options.capacity = 2 * each + 10;
+  const Tested two(lru::NewLevelDBBlockCache(options), true);
+  Tested::Deleted();
+  for (const char* name : {"a", "b", "c"}) two.Put(name, "2", 5);
+  CHECK(two.Deleted() == "a=2 " && two->TotalCharge() == options.capacity);
+}
+
+// The typical charge chooses the number of shards, and there may be no memory for the tables.
+void ExpectsEntries() {
+  lru::BlockCacheOptions options;
+  options.capacity = 1 << 20;
+  CHECK(Kept(Tested(lru::NewLevelDBBlockCache(options), true), (64 << 10) + 4) == 0);
+  options.typical_charge = 64 << 10;
+  CHECK(Kept(Tested(lru::NewLevelDBBlockCache(options), true), (64 << 10) + 4) == 12);
+  options.capacity = SIZE_MAX;
+  options.shards = 1;
+  options.typical_charge = 1;
+  CHECK(lru::NewLevelDBBlockCache(options) == nullptr && lru::NewLevelDBCache(options) == nullptr);
+  options.typical_charge = SIZE_MAX;
+  const Tested large(lru::NewLevelDBBlockCache(options), true);
+  large.Put("a", "1");
+  CHECK(large.Get("a") == "1");
+}
+
 void Common(NewCache new_cache) {
   for (const auto test :
        {HitsAndMisses, EvictsByLastRelease, ErasesWhatIsHeld, ReplacesWhatIsHeld}) {
@@ -434,6 +480,8 @@ int main() {
   }
   CachesBlocksOnly();
   KeepsFewBlocks();
+  ChargesItsMemory();
+  ExpectsEntries();
   std::printf("leveldb_cache.h: both caches, with 1, 4 and 8 threads: %d checks failed\n",
               failed_checks);
   return failed_checks == 0 ? 0 : 1;

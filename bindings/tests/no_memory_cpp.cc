@@ -2,7 +2,10 @@
 // std::bad_alloc is repeated, so the answers are those of a run with ample memory, whichever
 // request was refused.
 //
-// Each object must be deleted once, and an insert that throws must leave the charges that it found.
+// Each object must be deleted once, after a listener was told of it if the cache has accepted it,
+// and an insert that throws must leave the charges that it found. Where room was reserved, no table
+// may grow: the linker puts the functions that count requests before those of the C library.
+//
 // Prints the answers, and to standard error the call that was refused. Exits with 1 if something is
 // wrong. tests/no_memory runs this with the first request refused, then with the second, and so on.
 #include <cstddef>
@@ -17,6 +20,22 @@
 #include "lru.hpp"
 #include "random_calls.hpp"
 
+// How often and for how many bytes the library has requested memory.
+static std::size_t requests = 0, requested = 0;
+
+extern "C" {
+void* __real_malloc(std::size_t size);
+void* __real_realloc(void* block, std::size_t size);
+void* __wrap_malloc(std::size_t size) {
+  requests++, requested += size;
+  return __real_malloc(size);
+}
+void* __wrap_realloc(void* block, std::size_t size) {
+  requests++, requested += size;
+  return __real_realloc(block, size);
+}
+}
+
 namespace {
 
 int failed = 0;
@@ -26,27 +45,43 @@ void wrong(const char* what) {
   failed = 1;
 }
 
-// How often each object was deleted.
-int deletions[1000];
+// How often each object was accepted, shown to a listener and deleted.
+struct Fate {
+  int accepted, shown, deleted;
+};
+
+Fate fates[2000];
 std::size_t made = 0;
 
 class Object {
  public:
-  explicit Object(std::uint64_t number) : number_(number), deletions_(&deletions[made++]) {}
+  explicit Object(std::uint64_t number) : number_(number), fate_(&fates[made++]) {}
   Object(Object&& from) noexcept
-      : number_(from.number_), deletions_(std::exchange(from.deletions_, nullptr)) {}
+      : number_(from.number_), fate_(std::exchange(from.fate_, nullptr)) {}
   ~Object() {
-    if (deletions_ != nullptr) ++*deletions_;
+    if (fate_ != nullptr) fate_->deleted++;
   }
 
   Object(const Object&) = delete;
   Object& operator=(const Object&) = delete;
 
   std::uint64_t number() const { return number_; }
+  void accept() const { fate_->accepted++; }
+  void show() const { fate_->shown++; }
 
  private:
   std::uint64_t number_;
-  int* deletions_;  // null after it was moved from
+  Fate* fate_;  // null after it was moved from
+};
+
+// A cache with a listener.
+template <class Key>
+class Listening : public lru::Cache<Object, Key> {
+ public:
+  Listening(std::uint64_t capacity, lru::Seed seed)
+      : lru::Cache<Object, Key>(
+            capacity, [](Key, const Object& object, lru::Reason) { object.show(); },
+            lru::Limit::kNotStrict, seed) {}
 };
 
 // The answer of a call, which is repeated if it throws.
@@ -96,6 +131,9 @@ class Script {
     repeated("advice_evict", [&] { cache_->advice_evict(Keys::key(300)); });
     repeated("advice_evict", [&] { cache_->advice_evict(Keys::key(69)); });
     find(600);
+    for (std::uint64_t n = 610; n < 614; n++) begin(n, 2);
+    read(620);
+    read(613);
     if (held->number() != 1) wrong("a held object is not its own");
     say("total", cache_->total_charge());
     cache_->set_capacity(8);
@@ -122,12 +160,33 @@ class Script {
 
   Handle init(std::uint64_t n, std::uint64_t charge) {
     Handle handle = repeated("get_or_init", [&] {
-      return cache_->get_or_init(Keys::key(n), charge,
-                                 [n](typename Keys::Key) { return Object(n); });
+      bool is_new = false;
+      Handle found = cache_->get_or_init(Keys::key(n), charge, [&](typename Keys::Key) {
+        is_new = true;
+        return Object(n);
+      });
+      if (is_new) found->accept();
+      return found;
     });
     say("init", handle->number());
     say("total", cache_->total_charge());
     return handle;
+  }
+
+  // A `ready` that throws leaves the maker its duty.
+  void begin(std::uint64_t n, std::uint64_t charge) {
+    auto begun = repeated("begin", [&] { return cache_->begin(Keys::key(n), charge); });
+    const auto again = repeated("try_begin", [&] { return cache_->try_begin(Keys::key(n), 1); });
+    if (!begun.maker || again.maker || again.handle) wrong("a maker is not alone");
+    begun.handle = repeated("ready", [&] { return begun.maker.ready(n); });
+    begun.handle->accept();
+    say("ready", begun.handle->number());
+    say("total", cache_->total_charge());
+  }
+
+  void read(std::uint64_t n) {
+    const auto number = [](const Object& object) { return object.number(); };
+    say("read", repeated("read", [&] { return cache_->read(Keys::key(n), number); }).value_or(0));
   }
 
   Handle insert(std::uint64_t n, std::uint64_t charge) {
@@ -136,6 +195,7 @@ class Script {
       if (cache_->total_charge() != before) wrong("an insert that was refused changed something");
       return cache_->insert(Keys::key(n), charge, Object(n));
     });
+    handle->accept();
     say("insert", handle->number());
     say("total", cache_->total_charge());
     return handle;
@@ -149,14 +209,53 @@ class Script {
   std::optional<Cache> cache_;
 };
 
-template <class Keys>
-void run() {
-  Script<Keys, lru::Cache<Object, typename Keys::Key>>().run();
-  Script<Keys, SixteenShards<Object, typename Keys::Key>>().run();
-  for (std::size_t i = 0; i < made; i++) {
-    if (deletions[i] != 1) wrong("an object was not deleted exactly once");
+// The objects of a run, from the first on.
+void check(std::size_t first, bool has_listener) {
+  for (std::size_t i = first; i < made; i++) {
+    const Fate& fate = fates[i];
+    if (fate.deleted != 1) wrong("an object was not deleted exactly once");
+    if (fate.shown != (has_listener ? fate.accepted : 0)) wrong("an object was not shown once");
   }
 }
+
+template <class Keys>
+void run() {
+  using Key = typename Keys::Key;
+  std::size_t first = made;
+  Script<Keys, lru::Cache<Object, Key>>().run();
+  Script<Keys, SixteenShards<Object, Key>>().run();
+  check(first, false);
+  first = made;
+  Script<Keys, Listening<Key>>().run();
+  check(first, true);
+}
+
+// Puts numbers into a cache that has room for them. Without room, a table grows at some of the
+// inserts, which then request memory for more than an entry. Returns how much was reserved.
+template <class Cache, class... Arguments>
+std::size_t reserve(const Arguments&... arguments) {
+  constexpr std::size_t kRoom = 64;
+  std::optional<Cache> cache;
+  repeated("new", [&] { cache.emplace(kRoom, lru::Seed(0), arguments...); });
+  const std::size_t reserved = repeated("reserve", [&] {
+    requested = 0;
+    cache->reserve(kRoom);
+    return requested;
+  });
+  for (std::uint64_t n = 0; n < kRoom; n++) {
+    repeated("insert", [&] {
+      requests = 0;
+      cache->insert(n, 1, n);
+    });
+    if (requests != 1) wrong("a table has grown in spite of its room");
+  }
+  return reserved;
+}
+
+// Spreads numbers evenly.
+struct Evenly {
+  std::size_t operator()(std::uint64_t n) const { return static_cast<std::size_t>(n); }
+};
 
 }  // namespace
 
@@ -166,6 +265,10 @@ int main() {
   for (char& letter : letters) letter = 'k';
   run<Bytes>();
   run<Pairs>();
+  const std::size_t one = reserve<lru::Cache<std::uint64_t, std::uint64_t>>();
+  const std::size_t four =
+      reserve<lru::ShardedCache<std::uint64_t, std::uint64_t, Evenly>>(std::size_t{4});
+  if (four == 0 || four >= 2 * one) wrong("the shards do not share what is reserved");
   std::fflush(stdout);
   return failed;
 }

@@ -8,6 +8,7 @@
 #include <functional>
 #include <string>
 #include <string_view>
+#include <utility>
 
 #include "lru.hpp"
 
@@ -59,6 +60,8 @@ class SixteenShards : public lru::ShardedCache<Value, Key> {
 
   explicit SixteenShards(std::uint64_t capacity) : Base(capacity, kShards) {}
   SixteenShards(std::uint64_t capacity, lru::Seed seed) : Base(capacity, seed, kShards) {}
+  SixteenShards(std::uint64_t capacity, typename lru::Cache<Value, Key>::Listener listener)
+      : Base(capacity, kShards, std::move(listener)) {}
 
  private:
   using Base = lru::ShardedCache<Value, Key>;

@@ -1,18 +1,21 @@
-// Uses databases of 20,000 keys with this cache and with RocksDB's own.
+// Uses databases with this cache and with RocksDB's own.
 //
-//  - One thread reads, with several iterators open, at three capacities and with strict limits. All
-//    answers must be equal, and the same reads refused by a strict limit. Without one, the numbers
-//    of hits, misses, insertions and blocks and the charge at the end must be equal too.
-//  - Four threads read, write, delete, iterate, compact and read snapshots at three capacities and
-//    with strict limits. All answers must be right and equal, except that a strict limit may refuse
-//    reads, and that iterators may then skip keys: RocksDB's do so now and then, without an error,
-//    and with its own cache too. What they return must be right all the same.
+//  - One thread reads 200,000 keys, with several iterators open, at three capacities and with
+//    strict limits. All answers must be equal, and the same reads refused by a strict limit.
+//    Without one, the numbers of hits, misses and insertions, the numbers and charges of blocks by
+//    role and the charge at the end must be equal too.
+//  - Four threads read, write, delete, iterate, compact and read snapshots of 20,000 keys at three
+//    capacities and with strict limits, and read them again once the database has been closed and
+//    opened. All answers must be right and equal, except that a strict limit may refuse reads, and
+//    that iterators may then skip keys: RocksDB's do so now and then, without an error, and with
+//    its own cache too. What they return must be right all the same.
 //
 // Prints a line for each part, and exits with 1 if something differs.
 #include <algorithm>
 #include <cstdint>
 #include <cstdio>
 #include <cstdlib>
+#include <cstring>
 #include <functional>
 #include <initializer_list>
 #include <map>
@@ -22,14 +25,14 @@
 #include <utility>
 #include <vector>
 
-#include "rocksdb/cache.h"
 #include "rocksdb/db.h"
 #include "rocksdb/filter_policy.h"
 #include "rocksdb/iterator.h"
 #include "rocksdb/options.h"
 #include "rocksdb/statistics.h"
 #include "rocksdb/table.h"
-#include "rocksdb_cache.h"
+#include "memory_of_entries.hpp"
+#include "rocksdb_interface.hpp"
 
 namespace {
 
@@ -39,7 +42,7 @@ using rocksdb::Status;
 
 constexpr std::uint64_t kThreads = 4;
 constexpr std::uint64_t kKeysPerThread = 5000;
-constexpr std::uint64_t kKeys = kThreads * kKeysPerThread;
+constexpr std::uint64_t kKeysToRead = 50000;  // per thread, though one thread reads them
 constexpr std::uint64_t kReads = 40000;
 constexpr int kCalls = 6000;
 
@@ -69,7 +72,7 @@ std::string KeyOf(std::uint64_t thread, std::uint64_t n) {
 // 300 bytes, most of which compress.
 std::string ValueOf(std::uint64_t thread, std::uint64_t n, std::uint64_t version) {
   std::string value;
-  Random random((thread * kKeysPerThread + n) * 1000 + version);
+  Random random((thread * kKeysToRead + n) * 1000 + version);
   while (value.size() < 48) value += std::to_string(random.Below(1000000));
   value.append(300 - value.size(), 'v');
   return value;
@@ -84,19 +87,23 @@ void Check(const Status& status) {
 // Whether a strict limit refused a read.
 bool IsRefused(const Status& status) { return status.IsMemoryLimit() || status.IsIncomplete(); }
 
+// What Even below counts for a block. What is not a block has a charge of 0, which counts as 1 in
+// one of the caches.
+std::size_t EvenCharge(std::size_t charge) { return charge == 0 ? 1 : 4000; }
+
 // A cache in which each block has the same charge. RocksDB charges what malloc gave to a block,
 // which is not the same each time, so that numbers would differ now and then.
+#if ROCKSDB_MAJOR == 7
+
 class Even : public Cache {
  public:
-  static constexpr std::size_t kCharge = 4000;
 
   explicit Even(std::shared_ptr<Cache> cache) : cache_(std::move(cache)) {}
 
   const char* Name() const override { return cache_->Name(); }
   Status Insert(const rocksdb::Slice& key, void* value, std::size_t charge, DeleterFn deleter,
                 Handle** handle, Priority priority) override {
-    // What is not a block has a charge of 0, which counts as 1 in one of the caches.
-    return cache_->Insert(key, value, charge == 0 ? 1 : kCharge, deleter, handle, priority);
+    return cache_->Insert(key, value, EvenCharge(charge), deleter, handle, priority);
   }
   Handle* Lookup(const rocksdb::Slice& key, rocksdb::Statistics* statistics) override {
     return cache_->Lookup(key, statistics);
@@ -128,6 +135,23 @@ class Even : public Cache {
   std::shared_ptr<Cache> cache_;
 };
 
+#else
+
+class Even : public rocksdb::CacheWrapper {
+ public:
+  using CacheWrapper::CacheWrapper;
+
+  const char* Name() const override { return target_->Name(); }
+  Status Insert(const rocksdb::Slice& key, ObjectPtr value, const CacheItemHelper* helper,
+                std::size_t charge, Handle** handle, Priority priority,
+                const rocksdb::Slice& compressed, rocksdb::CompressionType type) override {
+    return target_->Insert(key, value, helper, EvenCharge(charge), handle, priority, compressed,
+                           type);
+  }
+};
+
+#endif
+
 struct Caches {
   std::shared_ptr<Cache> blocks;
   std::shared_ptr<Cache> rows;  // or null
@@ -147,6 +171,8 @@ rocksdb::Options OptionsFor(const Caches& caches, bool is_strict) {
   options.target_file_size_base = 512 << 10;
   options.max_bytes_for_level_base = 2 << 20;
   options.statistics = rocksdb::CreateDBStatistics();
+  // Nothing counts the blocks by role before the test does: a count is reused for some seconds.
+  options.stats_dump_period_sec = 0;
   return options;
 }
 
@@ -157,9 +183,10 @@ std::unique_ptr<DB> Open(const rocksdb::Options& options, const std::string& pat
 }
 
 // Gives each key the version 1.
-void Fill(DB* db) {
-  for (std::uint64_t i = 0; i < kKeys; i++) {
-    const std::uint64_t n = i * 7919 % kKeys;
+void Fill(DB* db, std::uint64_t keys_per_thread) {
+  const std::uint64_t keys = kThreads * keys_per_thread;
+  for (std::uint64_t i = 0; i < keys; i++) {
+    const std::uint64_t n = i * 7919 % keys;
     Check(db->Put(rocksdb::WriteOptions(), KeyOf(n % kThreads, n / kThreads),
                   ValueOf(n % kThreads, n / kThreads, 1)));
   }
@@ -171,7 +198,7 @@ struct Outcome {
   std::uint64_t refused = 0, wrong = 0;
   std::uint64_t hits = 0, misses = 0, added = 0;
   std::size_t usage = 0, pinned = 0;
-  std::string blocks;  // the number of blocks of data in the cache
+  std::string blocks;  // the number and the charge of the blocks in the cache, by role
 
   // An answer, and the right one.
   void Add(const Status& status, std::string answer, const std::string& right) {
@@ -201,12 +228,13 @@ std::string AnswerOf(const Status& status, const std::string& value) {
 
 // One thread.
 
-// Nine of ten reads are of a tenth of the keys, and one in fifty is of a key that does not exist.
+// Nine of ten reads are of a hundredth of the keys, and one in fifty is of a key that does not
+// exist.
 std::pair<std::uint64_t, std::uint64_t> Asked(Random* random) {
   const std::uint64_t thread = random->Below(kThreads);
-  if (random->Below(50) == 0) return {thread, kKeysPerThread + random->Below(kKeysPerThread)};
-  if (random->Below(10) == 0) return {thread, random->Below(kKeysPerThread)};
-  return {thread, random->Below(kKeysPerThread / 10) * 10};
+  if (random->Below(50) == 0) return {thread, kKeysToRead + random->Below(kKeysToRead)};
+  if (random->Below(10) == 0) return {thread, random->Below(kKeysToRead)};
+  return {thread, random->Below(kKeysToRead / 100)};
 }
 
 // Reads by key and by six iterators, each of which pins a block.
@@ -215,14 +243,14 @@ void ReadAll(DB* db, Outcome* outcome) {
   std::vector<std::unique_ptr<rocksdb::Iterator>> iterators(6);
   for (std::uint64_t read = 0; read < kReads; read++) {
     const auto [thread, n] = Asked(&random);
-    const std::string right = n < kKeysPerThread ? ValueOf(thread, n, 1) : "none";
+    const std::string right = n < kKeysToRead ? ValueOf(thread, n, 1) : "none";
     if (random.Below(10) != 0) {
       std::string value;
       const Status status = db->Get(rocksdb::ReadOptions(), KeyOf(thread, n), &value);
       outcome->Add(status, AnswerOf(status, value), right);
       continue;
     }
-    if (n >= kKeysPerThread) continue;
+    if (n >= kKeysToRead) continue;
     auto& iterator = iterators[random.Below(iterators.size())];
     if (iterator == nullptr || !iterator->Valid() || random.Below(20) == 0) {
       iterator.reset(db->NewIterator(rocksdb::ReadOptions()));
@@ -231,7 +259,7 @@ void ReadAll(DB* db, Outcome* outcome) {
     outcome->Add(iterator->status(), iterator->Valid() ? iterator->value().ToString() : "none",
                  right);
     for (std::uint64_t step = 1; step < 20 && iterator->Valid(); step++) {
-      if (n + step == kKeysPerThread) break;
+      if (n + step == kKeysToRead) break;
       iterator->Next();
       outcome->Add(iterator->status(), iterator->Valid() ? iterator->value().ToString() : "none",
                    ValueOf(thread, n + step, 1));
@@ -251,8 +279,12 @@ Outcome Read(const std::string& path, const Caches& caches, bool is_strict) {
     // RocksDB visits all entries to count them.
     std::map<std::string, std::string> counts;
     if (!db->GetMapProperty(DB::Properties::kBlockCacheEntryStats, &counts)) std::exit(2);
-    outcome.blocks = counts[rocksdb::BlockCacheEntryStatsMapKeys::EntryCount(
-        rocksdb::CacheEntryRole::kDataBlock)];
+    using Keys = rocksdb::BlockCacheEntryStatsMapKeys;
+    for (const auto role :
+         {rocksdb::CacheEntryRole::kDataBlock, rocksdb::CacheEntryRole::kFilterBlock,
+          rocksdb::CacheEntryRole::kIndexBlock}) {
+      outcome.blocks += counts[Keys::EntryCount(role)] + "=" + counts[Keys::UsedBytes(role)] + " ";
+    }
   }
   outcome.SetNumbers(caches, *options.statistics);
   return outcome;
@@ -277,6 +309,12 @@ class Worker {
   void Run() {
     for (int call = 0; call < kCalls; call++) Call(random_.Below(1000));
     if (snapshot_ != nullptr) db_->ReleaseSnapshot(snapshot_);
+  }
+
+  // Once the database has been opened again.
+  void ReadAgain(DB* db) {
+    db_ = db;
+    for (std::uint64_t n = 0; n < kKeysPerThread; n += 5) Get(rocksdb::ReadOptions(), n, now_);
   }
 
   Outcome outcome;
@@ -420,14 +458,17 @@ Outcome Work(const std::string& path, const Caches& caches, bool is_strict) {
   const rocksdb::Options options = OptionsFor(caches, is_strict);
   Outcome all;
   {
-    const std::unique_ptr<DB> db = Open(options, path);
-    Fill(db.get());
+    std::unique_ptr<DB> db = Open(options, path);
+    Fill(db.get(), kKeysPerThread);
     std::vector<Worker> workers;
     for (std::uint64_t t = 0; t < kThreads; t++) workers.emplace_back(db.get(), t, is_strict);
     std::vector<std::thread> threads;
     for (Worker& worker : workers) threads.emplace_back(&Worker::Run, &worker);
     for (std::thread& thread : threads) thread.join();
     Check(db->VerifyChecksum());
+    db.reset();
+    db = Open(options, path);
+    for (Worker& worker : workers) worker.ReadAgain(db.get());
     for (const Worker& worker : workers) {
       all.refused += worker.outcome.refused;
       all.wrong += worker.outcome.wrong;
@@ -445,7 +486,7 @@ unsigned long long Number(std::uint64_t n) { return n; }
 void Print(const char* name, const Outcome& outcome) {
   std::printf(
       "  %-18s %zu answers, %llu refused, %llu wrong, %llu hits, %llu misses, "
-      "%llu insertions, charge %zu, %zu pinned, %s blocks\n",
+      "%llu insertions, charge %zu, %zu pinned, blocks %s\n",
       name, outcome.answers.size(), Number(outcome.refused), Number(outcome.wrong),
       Number(outcome.hits), Number(outcome.misses), Number(outcome.added), outcome.usage,
       outcome.pinned, outcome.blocks.c_str());
@@ -529,6 +570,23 @@ void Compare(const char* what, std::initializer_list<std::size_t> capacities, bo
   std::printf("%s: %s %s\n", what, is_strict ? "refused" : "hits", numbers.c_str());
 }
 
+// Entries with keys of 16 bytes.
+template <class OneCache>
+bool IsSmall(const char* name, std::size_t most) {
+  return TakesLittleMemory<lru::RocksDBCacheOptions>(
+      name, most,
+      [](const lru::RocksDBCacheOptions& options) {
+        return std::unique_ptr<Cache>(OneCache::New(options));
+      },
+      [](Cache* cache, std::uint64_t n) {
+        char key[16] = {};
+        std::memcpy(key, &n, sizeof n);
+        Check(Insert(cache, rocksdb::Slice(key, sizeof key), nullptr, MemoryOfEntries::kCharge,
+                     NoHelper()));
+      },
+      [](Cache* cache) { return cache->GetUsage(); });
+}
+
 }  // namespace
 
 int main(int argc, char** argv) {
@@ -538,9 +596,11 @@ int main(int argc, char** argv) {
   }
   const std::string path = argv[1];
   const std::string work_path = path + "/work";
+  all_good &= IsSmall<lru::RocksDBBlockCache>("RocksDBBlockCache", 258);
+  all_good &= IsSmall<lru::RocksDBCache>("RocksDBCache", 306);
   {
     const Caches caches = ByDefault(Kind::kOwn, 1 << 20, false);
-    Fill(Open(OptionsFor(caches, false), path).get());
+    Fill(Open(OptionsFor(caches, false), path).get(), kKeysToRead);
   }
   const auto read = [&](const Caches& caches, bool is_strict) {
     return Read(path, caches, is_strict);
@@ -560,7 +620,8 @@ int main(int argc, char** argv) {
   Compare("one thread, strict", strict, true, WithOneShard, read, same_refusals);
   Compare("four threads", loose, false, ByDefault, work, SameAnswers);
   Compare("four threads, strict", strict, true, WithOneShard, work, SameAnswers);
-  std::printf("rocksdb: %llu keys: %s\n", Number(kKeys),
+  std::printf("RocksDB %d.%d: %llu keys: %s\n", ROCKSDB_MAJOR, ROCKSDB_MINOR,
+              Number(kThreads * kKeysToRead),
               all_good ? "equal to RocksDB's own cache" : "NOT EQUAL");
   return all_good ? 0 : 1;
 }

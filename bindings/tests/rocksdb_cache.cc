@@ -1,8 +1,6 @@
 // Tests lru::RocksDBCache: what it has in common with RocksDB's own LRU cache, on which these tests
 // run too; where it differs, as its header says; random calls on both, number for number; requests
 // for memory that are refused; and threads, with each object deleted exactly once.
-#include "rocksdb_cache.h"
-
 #include <algorithm>
 #include <cstddef>
 #include <cstdint>
@@ -20,7 +18,7 @@
 
 #include "check.hpp"
 #include "deleted_once.hpp"
-#include "rocksdb/cache.h"
+#include "rocksdb_interface.hpp"
 
 // The linker directs the requests for memory of the cache to these. One of them can be refused.
 namespace {
@@ -43,8 +41,11 @@ namespace {
 using rocksdb::Cache;
 using rocksdb::Slice;
 using rocksdb::Status;
-using Handle = Cache::Handle;
-using Priority = Cache::Priority;
+// A value, which knows the name of its key.
+struct Named {
+  std::string name;
+  std::string value;
+};
 
 // A cache, with keys of 16 bytes if it needs them: short names are padded by zeros.
 class Tested {
@@ -52,6 +53,7 @@ class Tested {
   Tested(std::shared_ptr<Cache> cache, bool pads) : cache_(std::move(cache)), pads_(pads) {}
 
   Cache* operator->() const { return cache_.get(); }
+  Cache* get() const { return cache_.get(); }
 
   std::string Key(std::string name) const {
     if (pads_) name.resize(16);
@@ -60,15 +62,15 @@ class Tested {
 
   // Returns null if it is refused.
   Handle* Insert(const std::string& name, const std::string& value, std::size_t charge = 1) const {
-    auto* object = new std::string(value);
+    auto* object = new Named{name, value};
     Handle* handle = nullptr;
-    status_ = cache_->Insert(Key(name), object, charge, Delete, &handle);
+    status_ = ::Insert(cache_.get(), Key(name), object, charge, Deleter(), &handle);
     if (!status_.ok()) delete object;
     return handle;
   }
 
   void Put(const std::string& name, const std::string& value, std::size_t charge = 1) const {
-    status_ = cache_->Insert(Key(name), new std::string(value), charge, Delete);
+    status_ = ::Insert(cache_.get(), Key(name), new Named{name, value}, charge, Deleter());
   }
 
   // What the last Insert or Put returned.
@@ -78,10 +80,20 @@ class Tested {
 
   Handle* Lookup(const std::string& name) const { return cache_->Lookup(Key(name)); }
 
+  // Returns null if it is refused.
+  Handle* Standalone(const std::string& name, const std::string& value, std::size_t charge,
+                     bool allow_uncharged) const {
+    auto* object = new Named{name, value};
+    Handle* handle = CreateStandalone(cache_.get(), Key(name), object, charge, Deleter(),
+                                      allow_uncharged);
+    if (handle == nullptr) delete object;
+    return handle;
+  }
+
   void Erase(const std::string& name) const { cache_->Erase(Key(name)); }
 
   std::string ValueOf(Handle* handle) const {
-    return *static_cast<std::string*>(cache_->Value(handle));
+    return static_cast<Named*>(cache_->Value(handle))->value;
   }
 
   // The value of a key, or "none".
@@ -94,9 +106,9 @@ class Tested {
   }
 
   // Whether the cache has these charges and this number of entries that keys find. RocksDB's own
-  // returns its pinned charge in place of that number.
+  // returns its pinned charge in place of that number in 7.8.
   bool Counts(std::size_t usage, std::size_t pinned, std::size_t entries) const {
-    const bool is_own = std::strcmp(cache_->Name(), "LRUCache") == 0;
+    const bool is_own = ROCKSDB_MAJOR == 7 && std::strcmp(cache_->Name(), "LRUCache") == 0;
     return cache_->GetUsage() == usage && cache_->GetPinnedUsage() == pinned &&
            Visited() == entries && cache_->GetOccupancyCount() == (is_own ? pinned : entries);
   }
@@ -105,7 +117,7 @@ class Tested {
   std::size_t Visited() const {
     std::size_t visited = 0;
     cache_->ApplyToAllEntries(
-        [&](const Slice&, void*, std::size_t, Cache::DeleterFn) { visited++; }, {});
+        [&](const Slice&, void*, std::size_t, Helper) { visited++; }, {});
     return visited;
   }
 
@@ -113,10 +125,10 @@ class Tested {
   std::string All() const {
     std::vector<std::string> all;
     cache_->ApplyToAllEntries(
-        [&](const Slice& key, void* value, std::size_t charge, Cache::DeleterFn deleter) {
-          all.push_back(NameOf(key) + "=" + *static_cast<std::string*>(value) + ":" +
+        [&](const Slice& key, void* value, std::size_t charge, Helper helper) {
+          all.push_back(NameOf(key) + "=" + static_cast<Named*>(value)->value + ":" +
                         std::to_string(charge) + " ");
-          CHECK(deleter == Delete);
+          CHECK(helper == Deleter());
         },
         {});
     std::sort(all.begin(), all.end());
@@ -134,10 +146,14 @@ class Tested {
     return text;
   }
 
-  static void Delete(const Slice& key, void* value) {
-    deleted_.push_back(NameOf(key) + "=" + *static_cast<std::string*>(value) + " ");
-    delete static_cast<std::string*>(value);
+  static void Delete(const Slice* key, void* value) {
+    auto* named = static_cast<Named*>(value);
+    CHECK(key == nullptr || NameOf(*key) == named->name);
+    deleted_.push_back(named->name + "=" + named->value + " ");
+    delete named;
   }
+
+  static Helper Deleter() { return HelperFor<Delete>(); }
 
  private:
   // Without the padding.
@@ -196,12 +212,12 @@ void TellsOfHandles(NewCache new_cache) {
   const Tested cache = new_cache(1000, false);
   Handle* handle = cache.Insert("a", "1", 7);
   CHECK(cache->GetCharge(handle) == 7 && cache->GetUsage(handle) == 7);
-  CHECK(cache->GetDeleter(handle) == Tested::Delete);
+  CHECK(HelperOf(cache.get(), handle) == Tested::Deleter());
   CHECK(cache->Value(handle) != nullptr);
   cache->Release(handle);
   // A value and a deleter may be null.
-  CHECK(cache->Insert(cache.Key("b"), nullptr, 2, nullptr, &handle).ok());
-  CHECK(cache->Value(handle) == nullptr && cache->GetDeleter(handle) == nullptr);
+  CHECK(Insert(cache.get(), cache.Key("b"), nullptr, 2, NoHelper(), &handle).ok());
+  CHECK(cache->Value(handle) == nullptr && HelperOf(cache.get(), handle) == NoHelper());
   CHECK(cache->Release(handle, true) && cache.Counts(7, 0, 1));
 }
 
@@ -316,7 +332,7 @@ void IsStrict(NewCache new_cache) {
   CHECK(cache.Deleted().empty());
   // What handle pointed to before is not left.
   Handle* handle = held;
-  CHECK(cache->Insert(cache.Key("b"), nullptr, 5, nullptr, &handle).IsMemoryLimit());
+  CHECK(Insert(cache.get(), cache.Key("b"), nullptr, 5, NoHelper(), &handle).IsMemoryLimit());
   CHECK(handle == nullptr);
   cache.Put("b", "2", 5);
   CHECK(cache.IsNew() && cache.Deleted() == "b=2 " && cache.Counts(6, 6, 1));
@@ -366,19 +382,23 @@ void AppliesToAll(NewCache new_cache) {
   cache.Put("f", "7", 8);
   CHECK(cache.Counts(28, 12, 4));
   CHECK(cache.All() == "a=1:2 b=2:3 d=5:6 f=7:8 ");
+#if ROCKSDB_MAJOR == 7
   static std::size_t sum;
   sum = 0;
   cache->ApplyToAllCacheEntries([](void*, std::size_t charge) { sum += charge; }, true);
   CHECK(sum == 19);
+#endif
   for (Handle* handle : {held, erased, replaced}) cache->Release(handle);
   CHECK(cache.All() == "a=1:2 b=2:3 d=5:6 f=7:8 ");
   cache->EraseUnRefEntries();
   CHECK(cache.All().empty() && cache.Counts(0, 0, 0));
 }
 
+#if ROCKSDB_MAJOR == 7
+
 // Of a helper only the deleter is called, and each handle is ready.
 void TakesHelpers(NewCache new_cache) {
-  const Cache::CacheItemHelper helper(nullptr, nullptr, Tested::Delete);
+  const Cache::CacheItemHelper helper(nullptr, nullptr, Tested::Deleter());
   const Tested cache = new_cache(1000, false);
   const Cache::CreateCallback create = [](const void*, std::size_t, void**, std::size_t*) {
     return Status::Corruption();
@@ -387,7 +407,7 @@ void TakesHelpers(NewCache new_cache) {
   std::string value = "not inserted";
   CHECK(cache->Insert(cache.Key("a"), &value, none, 1).IsInvalidArgument());
   Handle* handle = nullptr;
-  CHECK(cache->Insert(cache.Key("a"), new std::string("1"), &helper, 3, &handle).ok());
+  CHECK(cache->Insert(cache.Key("a"), new Named{"a", "1"}, &helper, 3, &handle).ok());
   CHECK(cache->IsReady(handle) && cache->GetCharge(handle) == 3);
   CHECK(!cache->Release(handle, true, false));
   handle = cache->Lookup(cache.Key("a"), &helper, create, Priority::LOW, false);
@@ -403,22 +423,114 @@ void TakesHelpers(NewCache new_cache) {
   CHECK(cache->Lookup(cache.Key("b"), &helper, create, Priority::LOW, true) == nullptr);
 }
 
-// Deleters run without the mutex, so they may call the cache.
-void DeletersMayCall(NewCache new_cache) {
-  struct Caller {
-    const Tested* cache;
-    int calls;
+void ForThisInterface(NewCache new_cache) { TakesHelpers(new_cache); }
+
+#else
+
+// Entries that count, and that no key finds.
+void CreatesStandalone(NewCache new_cache) {
+  const Tested cache = new_cache(1000, false);
+  cache.Put("a", "1", 300);
+  cache.Put("b", "2", 300);
+  Handle* one = cache.Standalone("a", "3", 500, false);
+  // An older entry made room for it, and the key finds what it did.
+  CHECK(cache.Deleted() == "a=1 " && cache.Get("a") == "none" && cache.All() == "b=2:300 ");
+  CHECK(cache.ValueOf(one) == "3" && cache->GetCharge(one) == 500 && cache.Counts(800, 500, 1));
+  CHECK(HelperOf(cache.get(), one) == Tested::Deleter());
+  Handle* two = cache.Standalone("a", "4", 7, false);
+  cache.Put("a", "5", 100);
+  CHECK(one != two && cache.Get("a") == "5" && cache.Counts(907, 507, 2));
+  cache.Erase("a");
+  CHECK(cache.Deleted() == "a=5 ");
+  CHECK(cache->Ref(one) && !cache->Release(one) && cache.Deleted().empty());
+  CHECK(cache->Release(one) && cache.Deleted() == "a=3 " && cache.Counts(307, 7, 1));
+  // It is above the capacity, if the limit is not strict.
+  one = cache.Standalone("c", "6", 2000, true);
+  CHECK(cache->GetCharge(one) == 2000 && cache.Deleted() == "b=2 " && cache.Counts(2007, 2007, 0));
+  CHECK(cache->Release(two, true) && cache->Release(one) && cache.Deleted() == "a=4 c=6 ");
+  CHECK(cache.Counts(0, 0, 0));
+}
+
+void CreatesStandaloneStrictly(NewCache new_cache) {
+  const Tested cache = new_cache(1000, true);
+  Handle* held = cache.Insert("a", "1", 600);
+  CHECK(cache.Standalone("a", "2", 401, false) == nullptr && cache.Deleted().empty());
+  CHECK(cache.Counts(600, 600, 1));
+  // What may be uncharged is there all the same.
+  Handle* uncharged = cache.Standalone("a", "3", 401, true);
+  CHECK(cache->GetCharge(uncharged) == 0 && cache.ValueOf(uncharged) == "3");
+  CHECK(cache.Counts(600, 600, 1) && cache.Get("a") == "1");
+  CHECK(cache->Ref(uncharged) && !cache->Release(uncharged));
+  CHECK(cache->Release(uncharged) && cache.Deleted() == "a=3 ");
+  Handle* exact = cache.Standalone("a", "4", 400, true);
+  CHECK(cache->GetCharge(exact) == 400 && cache.Counts(1000, 1000, 1));
+  CHECK(cache->Release(exact) && cache.Deleted() == "a=4 ");
+  cache->Release(held);
+}
+
+void AppliesToHandles(NewCache new_cache) {
+  const Tested cache = new_cache(1000, true);
+  std::string seen;
+  const auto see = [&](const Slice& key, void* value, std::size_t charge, Helper helper) {
+    CHECK(helper == Tested::Deleter());
+    seen += key.ToString().c_str() + ("=" + static_cast<Named*>(value)->value) + ":" +
+            std::to_string(charge) + " ";
   };
+  Handle* all[] = {cache.Insert("a", "1", 600), cache.Standalone("b", "2", 401, true)};
+  for (Handle* handle : all) cache->ApplyToHandle(cache.get(), handle, see);
+  CHECK(seen == "a=1:600 b=2:0 ");
+  for (Handle* handle : all) cache->Release(handle);
+}
+
+// There is no secondary cache, so no look-up is pending.
+void LooksUpAtOnce(NewCache new_cache) {
+  const Tested cache = new_cache(1000, false);
+  cache.Put("a", "1", 3);
+  const std::string keys[] = {cache.Key("a"), cache.Key("b")};
+  Cache::AsyncLookupHandle looked[2];
+  for (int i : {0, 1}) {
+    looked[i].key = keys[i];
+    cache->StartAsyncLookup(looked[i]);
+    CHECK(looked[i].IsReady() && !looked[i].IsPending());
+  }
+  cache->WaitAll(looked, 2);
+  Handle* handle = looked[0].Result();
+  CHECK(cache.ValueOf(handle) == "1" && looked[1].Result() == nullptr);
+  // A value that was of no use may be evicted, but not while another handle pins it.
+  cache->Ref(handle);
+  CHECK(!cache->Release(handle, false, true));
+  CHECK(cache->Release(handle, true, true) && cache.Deleted() == "a=1 ");
+}
+
+void ForThisInterface(NewCache new_cache) {
+  for (const auto test :
+       {CreatesStandalone, CreatesStandaloneStrictly, AppliesToHandles, LooksUpAtOnce}) {
+    test(new_cache);
+    Tested::Deleted();
+  }
+}
+
+#endif
+
+// Deleters run without the mutex, so they may call the cache.
+struct Caller {
+  const Tested* cache;
+  int calls;
+};
+
+void CallCache(const Slice*, void* value) {
+  auto* caller = static_cast<Caller*>(value);
+  caller->cache->Erase("b");
+  caller->calls += (*caller->cache)->GetUsage() == 0;
+}
+
+void DeletersMayCall(NewCache new_cache) {
   const Tested cache = new_cache(1000, false);
   Caller caller = {&cache, 0};
-  const auto call = [](const Slice&, void* value) {
-    auto* c = static_cast<Caller*>(value);
-    c->cache->Erase("b");
-    c->calls += (*c->cache)->GetUsage() == 0;
-  };
   for (int way = 0; way < 5; way++) {
     Handle* handle = nullptr;
-    CHECK(cache->Insert(cache.Key("a"), &caller, 1, call, &handle).ok());
+    const Helper helper = HelperFor<CallCache>();
+    CHECK(Insert(cache.get(), cache.Key("a"), &caller, 1, helper, &handle).ok());
     cache.Put("b", "1");
     if (way == 0) cache->Release(handle, true);
     if (way > 0) cache->Release(handle);
@@ -436,7 +548,7 @@ void Common(NewCache new_cache) {
   for (const auto test :
        {HitsAndMisses, TellsOfHandles, EvictsByLastRelease, ErasesWhatIsHeld, ReplacesWhatIsHeld,
         Refs, ErasesWithTheLastRelease, EvictsAtReleases, FindsWhatIsHeldAtCapacity0, HasNoRoom,
-        IsStrict, ChangesItsCapacity, AppliesToAll, TakesHelpers, DeletersMayCall}) {
+        IsStrict, ChangesItsCapacity, AppliesToAll, ForThisInterface, DeletersMayCall}) {
     test(new_cache);
     Tested::Deleted();
   }
@@ -508,13 +620,82 @@ void ReturnsWhatItDoesNotCache(NewCache new_cache) {
   Handle* fresh = cache.Insert("a", "2", SIZE_MAX);
   CHECK(fresh != nullptr && cache.IsOverwritten() && cache.Counts(1, 1, 0));
   CHECK(cache.ValueOf(fresh) == "2" && cache.Get("a") == "none" && cache.All().empty());
-  CHECK(cache->GetCharge(fresh) == SIZE_MAX && cache->GetDeleter(fresh) == Tested::Delete);
+  CHECK(cache->GetCharge(fresh) == SIZE_MAX);
+  CHECK(HelperOf(cache.get(), fresh) == Tested::Deleter());
   CHECK(cache->Ref(fresh) && cache->Ref(fresh));
   CHECK(!cache->Release(fresh) && !cache->Release(fresh, true) && cache.Deleted().empty());
   CHECK(cache->Release(fresh) && cache.Deleted() == "a=2 ");
   CHECK(cache.ValueOf(old) == "1" && cache->Release(old) && cache.Deleted() == "a=1 ");
   CHECK(cache.Counts(0, 0, 0));
 }
+
+// Nothing is replaced if the key has no entry.
+void ReplacesNothingIfItOverflows(NewCache new_cache) {
+  const Tested cache = new_cache(1000, false);
+  constexpr std::size_t kHalf = SIZE_MAX / 2 + 1;
+  Handle* one = cache.Insert("a", "1", kHalf);
+  Handle* two = cache.Insert("b", "2", kHalf);
+  CHECK(two != nullptr && cache.IsNew() && cache.Counts(kHalf, kHalf, 1));
+  CHECK(cache.Get("b") == "none" && cache->Release(two) && cache.Deleted() == "b=2 ");
+  CHECK(cache.Get("a") == "1" && cache->Release(one) && cache.Deleted() == "a=1 ");
+}
+
+#if ROCKSDB_MAJOR > 7
+
+// An entry that cannot be counted is uncharged, and there is none without memory for it.
+void CreatesStandaloneWithoutMemory(NewCache new_cache) {
+  for (const bool is_strict : {false, true}) {
+    for (const bool allow_uncharged : {false, true}) {
+      int nulls = 0, uncharged = 0;
+      bool was_refused = true;
+      for (int request = 1; was_refused; request++) {
+        const Tested cache = new_cache(1000, is_strict);
+        const std::string key = cache.Key("a key");
+        auto* value = new Named{"a key", "1"};
+        const Helper deleter = Tested::Deleter();
+        requests_until_refusal = request;
+        Handle* handle =
+            CreateStandalone(cache.get(), key, value, 7, deleter, allow_uncharged);
+        was_refused = std::exchange(requests_until_refusal, 0) == 0;
+        if (handle == nullptr) {
+          CHECK(was_refused && Tested::Deleted().empty() && cache.Counts(0, 0, 0));
+          delete value;
+          nulls++;
+          continue;
+        }
+        const std::size_t charge = cache->GetCharge(handle);
+        CHECK(charge == 7 || (charge == 0 && was_refused));
+        CHECK(cache.Counts(charge, charge, 0) && cache.Get("a key") == "none");
+        uncharged += charge == 0;
+        CHECK(cache->Release(handle) && Tested::Deleted() == "a key=1 ");
+      }
+      const bool has_uncharged = !is_strict || allow_uncharged;
+      CHECK(has_uncharged ? nulls == 1 && uncharged > 0 : nulls > 1 && uncharged == 0);
+    }
+  }
+}
+
+// Keys that the cache takes for standalone entries remain the user's.
+void CreatesStandaloneBesideEachKey(NewCache new_cache) {
+  const Tested cache = new_cache(1000, false);
+  std::vector<Handle*> all;
+  const auto put = [&](std::uint64_t first) {
+    const std::uint64_t words[2] = {first, 0};
+    cache.Put(std::string(reinterpret_cast<const char*>(words), sizeof words), "put");
+  };
+  for (std::uint64_t n = 0; n < 4; n++) {
+    put(n);
+    all.push_back(cache.Standalone("a", std::to_string(n), 1, false));
+  }
+  CHECK(cache.Counts(8, 4, 4) && Tested::Deleted().empty());
+  put(0);
+  CHECK(cache.IsOverwritten());
+  for (std::size_t n = 0; n < 4; n++) CHECK(cache.ValueOf(all[n]) == std::to_string(n));
+  for (Handle* handle : all) CHECK(cache->Release(handle));
+  CHECK(cache.Counts(4, 0, 4));
+}
+
+#endif
 
 void DeletesWhatIsLeft(NewCache new_cache) {
   {
@@ -537,12 +718,13 @@ void RefusesMemory(NewCache new_cache) {
         const Tested cache = new_cache(1000, false);
         Tested::Deleted();
         if (is_there) cache.Put("a key", "1");
-        auto* value = new std::string("2");
+        auto* value = new Named{"a key", "2"};
         const std::string key = cache.Key("a key");
         Handle* handle = nullptr;
+        const Helper deleter = Tested::Deleter();
         requests_until_refusal = request;
         const Status status =
-            cache->Insert(key, value, 1, Tested::Delete, has_handle ? &handle : nullptr);
+            Insert(cache.get(), key, value, 1, deleter, has_handle ? &handle : nullptr);
         was_refused = std::exchange(requests_until_refusal, 0) == 0;
         const std::string found = cache.Get("a key");
         if (status.ok()) {
@@ -560,8 +742,10 @@ void RefusesMemory(NewCache new_cache) {
         } else {
           CHECK(was_refused && status.IsMemoryLimit() && handle == nullptr);
           CHECK(found == (is_there ? "1" : "none"));
-          CHECK(Tested::Deleted() == (has_handle ? "" : "a key=2 "));
-          if (has_handle) delete value;
+          // Since RocksDB 8 the value stays the caller's without a handle too.
+          const bool is_left = has_handle || ROCKSDB_MAJOR > 7;
+          CHECK(Tested::Deleted() == (is_left ? "" : "a key=2 "));
+          if (is_left) delete value;
           refused++;
         }
       }
@@ -588,20 +772,27 @@ void RefusesToOpen() {
   bool was_refused = true;
   for (int request = 1; was_refused; request++) {
     requests_until_refusal = request;
-    const std::unique_ptr<OneCache> cache(OneCache::New(100, 3));
+    const std::unique_ptr<OneCache> cache(OneCache::New({{100, 3, 1}}));
     was_refused = std::exchange(requests_until_refusal, 0) == 0;
     CHECK((cache == nullptr) == was_refused);
     refused += was_refused;
   }
-  CHECK(refused >= 6);
+  // Each shard has a cache, a chain and two tables.
+  CHECK(refused >= 12);
 }
 
 void ForThisCache(NewCache new_cache) {
   for (const auto test :
-       {ReturnsWhatItDoesNotCache, DeletesWhatIsLeft, RefusesMemory, VisitsNothingWithoutMemory}) {
+       {ReturnsWhatItDoesNotCache, ReplacesNothingIfItOverflows, DeletesWhatIsLeft, RefusesMemory,
+        VisitsNothingWithoutMemory}) {
     test(new_cache);
     Tested::Deleted();
   }
+#if ROCKSDB_MAJOR > 7
+  CreatesStandaloneWithoutMemory(new_cache);
+  CreatesStandaloneBesideEachKey(new_cache);
+  Tested::Deleted();
+#endif
 }
 
 // A cache of blocks returns entries of other keys, and does not cache them.
@@ -632,50 +823,111 @@ void HasShards() {
     return cache->GetPrintableOptions();
   };
   CHECK(options(lru::NewRocksDBBlockCache(8 * kMiB)) ==
-        "    capacity : 8388608\n    shards : 16\n    strict_capacity_limit : 0\n");
+        "    capacity : 8388608\n    shards : 16\n    strict_capacity_limit : 0\n"
+        "    charges_metadata : 0\n");
   // Numbers of shards that are not possible.
   CHECK(options(lru::NewRocksDBCache(7, 0, true)) ==
-        "    capacity : 7\n    shards : 1\n    strict_capacity_limit : 1\n");
+        "    capacity : 7\n    shards : 1\n    strict_capacity_limit : 1\n"
+        "    charges_metadata : 0\n");
   CHECK(options(lru::NewRocksDBCache(7, 1000)) ==
-        "    capacity : 7\n    shards : 64\n    strict_capacity_limit : 0\n");
+        "    capacity : 7\n    shards : 64\n    strict_capacity_limit : 0\n"
+        "    charges_metadata : 0\n");
   CHECK(std::strcmp(lru::NewRocksDBCache(1)->Name(), "lru::RocksDBCache") == 0);
   CHECK(std::strcmp(lru::NewRocksDBBlockCache(1)->Name(), "lru::RocksDBBlockCache") == 0);
   // Shares are rounded up.
   Handle* handle = nullptr;
   const std::unique_ptr<lru::RocksDBCache> four(lru::RocksDBCache::New(5, 4, true));
-  CHECK(four->Insert("two", nullptr, 2, nullptr, &handle).ok() && four->Release(handle, true));
-  CHECK(four->Insert("three", nullptr, 3, nullptr, &handle).IsMemoryLimit());
+  CHECK(Insert(four.get(), "two", nullptr, 2, NoHelper(), &handle).ok());
+  CHECK(four->Release(handle, true));
+  CHECK(Insert(four.get(), "three", nullptr, 3, NoHelper(), &handle).IsMemoryLimit());
   // Each shard has a share of the capacity, and all are looked at.
   const std::unique_ptr<lru::RocksDBCache> cache(
-      lru::RocksDBCache::New(640, 64, true, lru::Seed(1)));
-  CHECK(cache->Insert("too large", nullptr, 11, nullptr, &handle).IsMemoryLimit());
-  for (int n = 0; n < 1000; n++) CHECK(cache->Insert(std::to_string(n), nullptr, 1, nullptr).ok());
+      lru::RocksDBCache::New({{640, 64}, true}, lru::Seed(1)));
+  CHECK(Insert(cache.get(), "too large", nullptr, 11, NoHelper(), &handle).IsMemoryLimit());
+  for (int n = 0; n < 1000; n++) {
+    CHECK(Insert(cache.get(), std::to_string(n), nullptr, 1, NoHelper()).ok());
+  }
   CHECK(cache->GetUsage() > 500 && cache->GetUsage() <= 640);
   CHECK(cache->GetOccupancyCount() == cache->GetUsage());
   cache->SetCapacity(64);
   CHECK(cache->GetCapacity() == 64 && cache->GetUsage() == 64);
   std::size_t visited = 0;
-  cache->ApplyToAllEntries([&](const Slice&, void*, std::size_t, Cache::DeleterFn) { visited++; },
-                           {});
+  cache->ApplyToAllEntries([&](const Slice&, void*, std::size_t, Helper) { visited++; }, {});
   CHECK(visited == 64);
   cache->EraseUnRefEntries();
   CHECK(cache->GetUsage() == 0 && cache->GetOccupancyCount() == 0);
 }
 
+// An entry counts its memory too, if the cache is asked to charge it.
+template <class OneCache>
+void ChargesItsMemory() {
+  const std::string a(16, 'a'), b(16, 'b'), c(16, 'c');
+  lru::RocksDBCacheOptions options{{1000000, 1}};
+  options.charges_metadata = true;
+  const std::unique_ptr<Cache> cache(OneCache::New(options));
+  Handle* handle = nullptr;
+  CHECK(Insert(cache.get(), a, nullptr, 0, NoHelper(), &handle).ok());
+  const std::size_t each = cache->GetUsage();
+  CHECK(each > 200 && each < 350 && cache->GetPinnedUsage() == each);
+  CHECK(cache->GetCharge(handle) == 0 && cache->GetUsage(handle) == 0 && !cache->Release(handle));
+  CHECK(Insert(cache.get(), b, nullptr, 5, NoHelper()).ok() && cache->GetUsage() == 2 * each + 5);
+  std::size_t sum = 0;
+  cache->ApplyToAllEntries(
+      [&](const Slice&, void*, std::size_t charge, Helper) { sum += charge; }, {});
+  CHECK(sum == 5);
+  // The sum does not overflow.
+  CHECK(Insert(cache.get(), c, nullptr, SIZE_MAX - 1, NoHelper(), &handle).ok());
+  CHECK(cache->GetCharge(handle) == SIZE_MAX - 1 && cache->Lookup(c) == nullptr);
+  CHECK(cache->Release(handle));
+  cache->SetCapacity(each + 5);
+  cache->SetStrictCapacityLimit(true);
+  CHECK(cache->GetUsage() == each + 5);
+  CHECK(Insert(cache.get(), c, nullptr, 6, NoHelper(), &handle).IsMemoryLimit());
+  CHECK(Insert(cache.get(), c, nullptr, 5, NoHelper(), &handle).ok());
+  CHECK(cache->GetUsage() == each + 5 && cache->GetOccupancyCount() == 1);
+#if ROCKSDB_MAJOR > 7
+  Handle* other = cache->CreateStandalone(a, nullptr, NoHelper(), 0, false);
+  CHECK(other == nullptr);
+  cache->SetCapacity(2 * each + 5);
+  other = cache->CreateStandalone(a, nullptr, NoHelper(), 0, false);
+  CHECK(other != nullptr && cache->GetUsage() == 2 * each + 5 && cache->Release(other));
+#endif
+  cache->Release(handle);
+}
+
+// The typical charge chooses the number of shards, and there may be no memory for the tables.
+void ExpectsEntries() {
+  lru::RocksDBCacheOptions options{{8 << 20}};
+  options.typical_charge = 1 << 20;
+  CHECK(lru::NewRocksDBBlockCache(options)->GetPrintableOptions() ==
+        "    capacity : 8388608\n    shards : 2\n    strict_capacity_limit : 0\n"
+        "    charges_metadata : 0\n");
+  options.capacity = SIZE_MAX;
+  options.shards = 1;
+  options.typical_charge = 1;
+  CHECK(lru::NewRocksDBBlockCache(options) == nullptr && lru::NewRocksDBCache(options) == nullptr);
+  options.typical_charge = SIZE_MAX;
+  options.strict_capacity_limit = options.charges_metadata = true;
+  CHECK(lru::NewRocksDBCache(options)->GetPrintableOptions() ==
+        "    capacity : 18446744073709551615\n    shards : 1\n    strict_capacity_limit : 1\n"
+        "    charges_metadata : 1\n");
+}
+
 // A deleter that SetCapacity runs may call it too. Then all shards have shares of what it set.
+void Resize(const Slice*, void* value) { static_cast<Cache*>(value)->SetCapacity(4000); }
+
 void DeletersMayResize() {
   const std::unique_ptr<Cache> cache(lru::RocksDBCache::New(4000, 4));
-  const auto resize = [](const Slice&, void* value) {
-    static_cast<Cache*>(value)->SetCapacity(4000);
-  };
+  const Helper resize = HelperFor<Resize>();
   for (int round = 0; round < 10; round++) {
     // In some shard.
-    CHECK(cache->Insert("resize" + std::to_string(round), cache.get(), 1, resize).ok());
+    const std::string key = "resize" + std::to_string(round);
+    CHECK(Insert(cache.get(), key, cache.get(), 1, resize).ok());
     cache->SetCapacity(0);
     CHECK(cache->GetCapacity() == 4000);
     cache->EraseUnRefEntries();
     for (int n = 0; n < 100; n++) {
-      CHECK(cache->Insert(std::to_string(n), nullptr, 1, nullptr).ok());
+      CHECK(Insert(cache.get(), std::to_string(n), nullptr, 1, NoHelper()).ok());
     }
     CHECK(cache->GetUsage() == 100);
   }
@@ -713,6 +965,10 @@ class SameAsOwn {
       CHECK(times_[what] >= 100);
     }
     CHECK((times_["refused"] >= 100) == (limit_ != Limit::kLoose));
+    const bool has_both = ROCKSDB_MAJOR > 7 && limit_ != Limit::kLoose;
+    CHECK((times_["standalone"] >= 100) == (ROCKSDB_MAJOR > 7));
+    CHECK((times_["uncharged"] >= 100) == has_both);
+    CHECK((times_["not standalone"] >= 100) == has_both);
   }
 
  private:
@@ -752,8 +1008,8 @@ class SameAsOwn {
   std::string Found(const std::string& name) {
     std::string found = "none";
     caches_[0]->ApplyToAllEntries(
-        [&](const Slice& key, void* value, std::size_t, Cache::DeleterFn) {
-          if (key == name) found = *static_cast<std::string*>(value);
+        [&](const Slice& key, void* value, std::size_t, Helper) {
+          if (key == name) found = static_cast<Named*>(value)->value;
         },
         {});
     return found;
@@ -771,16 +1027,14 @@ class SameAsOwn {
     Held held = {name, std::to_string(made_), {}};
     made_++;
     const auto priority = static_cast<Priority>(Below(3));
-    const bool has_helper = Below(4) == 0;
     Status status[2];
     Same([&](int i) {
-      auto* value = new std::string(held.value);
+      auto* value = new Named{name, held.value};
       Handle** handle = has_handle ? &held.handles[i] : nullptr;
-      status[i] = has_helper
-                      ? caches_[i]->Insert(name, value, &helper_, charge, handle, priority)
-                      : caches_[i]->Insert(name, value, charge, Tested::Delete, handle, priority);
+      status[i] =
+          ::Insert(caches_[i].get(), name, value, charge, Tested::Deleter(), handle, priority);
       // As if by its deleter, so that it is among the deleted ones.
-      if (!status[i].ok()) Tested::Delete(name, value);
+      if (!status[i].ok()) Tested::Delete(nullptr, value);
       // RocksDB's cache evicts all idle entries before it refuses one, and this cache does not.
       if (is_strict_ && !has_room) caches_[i]->EraseUnRefEntries();
     });
@@ -796,6 +1050,27 @@ class SameAsOwn {
       CHECK(caches_[i]->GetCharge(held.handles[i]) == charge);
       CHECK(caches_[i]->GetUsage(held.handles[i]) == charge);
     }
+    held_.push_back(held);
+  }
+
+  void Standalone(const std::string& name) {
+    const std::size_t charge = 1 + Below(20);
+    const bool allow_uncharged = Below(2) == 0;
+    const bool has_room =
+        caches_[0]->GetPinnedUsage() + charge <= caches_[0]->GetCapacity() || !is_strict_;
+    Held held = {name, std::to_string(made_), {}};
+    made_++;
+    Same([&](int i) {
+      auto* value = new Named{name, held.value};
+      held.handles[i] = CreateStandalone(caches_[i].get(), name, value, charge, Tested::Deleter(),
+                                         allow_uncharged);
+      if (held.handles[i] == nullptr) Tested::Delete(nullptr, value);
+      if (!has_room) caches_[i]->EraseUnRefEntries();
+    });
+    for (int i : {0, 1}) CHECK((held.handles[i] != nullptr) == (has_room || allow_uncharged));
+    times_[has_room ? "standalone" : allow_uncharged ? "uncharged" : "not standalone"]++;
+    if (held.handles[0] == nullptr || held.handles[1] == nullptr) return;
+    for (int i : {0, 1}) CHECK(caches_[i]->GetCharge(held.handles[i]) == (has_room ? charge : 0));
     held_.push_back(held);
   }
 
@@ -849,7 +1124,9 @@ class SameAsOwn {
       Insert(name, false);
     } else if (kind < 60) {
       Lookup(name);
-    } else if (kind < 65 && !held_.empty()) {
+    } else if (kind < 62 && ROCKSDB_MAJOR > 7) {
+      Standalone(name);
+    } else if (kind < 66 && !held_.empty()) {
       const Held held = held_[Below(held_.size())];
       for (int i : {0, 1}) CHECK(caches_[i]->Ref(held.handles[i]));
       held_.push_back(held);
@@ -860,7 +1137,6 @@ class SameAsOwn {
 
   Limit limit_;
   bool is_strict_;
-  const Cache::CacheItemHelper helper_{nullptr, nullptr, Tested::Delete};
   Tested caches_[2];
   std::vector<Held> held_;
   std::map<std::string, int> times_;
@@ -884,7 +1160,10 @@ constexpr int kThreads = 8;
 constexpr int kCalls = 20000;
 constexpr std::size_t kThreadsCapacity = 256;
 
-constexpr auto DeleteObject = DeleteOnce<Slice>;
+void DeleteObject(const Slice* key, void* value) {
+  const std::uint64_t n = static_cast<Object*>(value)->key;
+  DeleteOnce(key != nullptr ? *key : Slice(reinterpret_cast<const char*>(&n), sizeof n), value);
+}
 
 void Calls(Cache* cache, std::uint64_t seed) {
   std::uint64_t random = seed * 0x9e3779b97f4a7c15u;
@@ -913,20 +1192,23 @@ void Calls(Cache* cache, std::uint64_t seed) {
       cache->SetStrictCapacityLimit(random % 2 == 0);
     } else if (kind == 7 && call % 8 == 0) {
       cache->ApplyToAllEntries(
-          [](const Slice& k, void* value, std::size_t c, Cache::DeleterFn deleter) {
+          [](const Slice& k, void* value, std::size_t c, Helper helper) {
             const auto* object = static_cast<const Object*>(value);
-            if (!IsOf(k, object) || !object->there || c > 3 || deleter != DeleteObject) wrong++;
+            if (!IsOf(k, object) || !object->there || c > 3) wrong++;
+            if (helper != HelperFor<DeleteObject>()) wrong++;
           },
           {});
       if (cache->GetUsage() < cache->GetCapacity() / 1000) wrong++;
       if (cache->GetPinnedUsage() > 3 * 4 * kThreads) wrong++;
     } else if (kind < 12) {
-      if (!cache->Insert(key, new Object(n), charge, DeleteObject).ok()) wrong++;
+      const Helper helper = HelperFor<DeleteObject>();
+      if (!Insert(cache, key, new Object(n), charge, helper).ok()) wrong++;
     } else {
       if (kind > 20) slot = cache->Lookup(key);
       if (slot == nullptr) {
         auto* object = new Object(n);
-        const Status status = cache->Insert(key, object, charge, DeleteObject, &slot);
+        const Status status =
+            Insert(cache, key, object, charge, HelperFor<DeleteObject>(), &slot);
         if (!status.ok()) {
           if (!status.IsMemoryLimit() || slot != nullptr) wrong++;
           delete object;
@@ -978,6 +1260,9 @@ int main() {
   RefusesToOpen<lru::RocksDBBlockCache>();
   CachesBlocksOnly();
   HasShards();
+  ChargesItsMemory<lru::RocksDBCache>();
+  ChargesItsMemory<lru::RocksDBBlockCache>();
+  ExpectsEntries();
   DeletersMayResize();
   std::printf("rocksdb_cache.h: both caches, with 1, 4 and 8 threads: %d checks failed\n",
               failed_checks);

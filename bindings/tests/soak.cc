@@ -478,6 +478,11 @@ class Worker {
       case 16:
         held.handle.reset();
         break;
+      case 17:
+      case 18:
+      case 19:
+        begin(n, key.key(), held);
+        break;
       default:
         init(n, key.key(), held);
     }
@@ -516,6 +521,26 @@ class Worker {
       MUST(ran && fails);
       missed(n);
     }
+  }
+
+  void begin(std::uint64_t n, Key key, Held<Handle>& held) {
+    const bool waits = random_.below(2) == 0;
+    asked_++;
+    auto begun = waits ? cache_->begin(key, charge_of(n)) : cache_->try_begin(key, charge_of(n));
+    MUST(!begun.handle || !begun.maker);
+    if (begun.maker) {
+      MUST(!pins(n));
+      auto maker = std::move(begun.maker);
+      if (random_.below(8) == 0) std::this_thread::yield();
+      if (random_.below(4) == 0) return missed(n);
+      begun.handle = maker.ready(n, Object::Origin::kInit, ledger_);
+      known_[n].current = begun.handle->number();
+    } else if (!begun.handle) {
+      MUST(!waits && !is_own(n));
+      return;
+    }
+    found(n, *begun.handle);
+    held = {std::move(begun.handle), n};
   }
 
   // An init may ask for other keys. The order of the keys keeps two from waiting for each other.
@@ -557,10 +582,7 @@ class Worker {
 
   void read(std::uint64_t n, Key key) {
     asked_++;
-    const bool is_there = cache_->read(key, [&](const Object& object) {
-      if (random_.below(8) == 0) cache_->prune();
-      found(n, object);
-    });
+    const bool is_there = cache_->read(key, [&](const Object& object) { found(n, object); });
     if (!is_there) missed(n);
   }
 

@@ -906,12 +906,7 @@ impl<'a, C: Cache> Worker<'a, '_, C> {
     fn read(&mut self, n: u64) {
         self.asked += 1;
         let cache = self.cache;
-        let is_there = cache.read(n, |object| {
-            if self.random.below(8) == 0 {
-                cache.prune();
-            }
-            self.found(n, object);
-        });
+        let is_there = cache.read(n, |object| self.found(n, object));
         if is_there.is_none() {
             self.missed(n);
         }

@@ -1,5 +1,6 @@
 // Threads use a cache, for a run with a sanitizer: each value must fit the key that was asked for,
-// and be deleted exactly once. Prints one line, and exits with 1 if something is wrong.
+// and be deleted exactly once, after a listener was told of it exactly once. Prints one line, and
+// exits with 1 if something is wrong.
 #include <atomic>
 #include <cstdint>
 #include <cstdio>
@@ -20,15 +21,18 @@ constexpr std::uint64_t kCalls = 10000;
 constexpr std::uint64_t kCapacity = 128;
 constexpr std::size_t kMostThreads = 8;
 
-// How often each object was deleted, by its number.
+// How often each object was deleted, and shown to a listener before, by its number.
 struct Deletions {
   std::atomic<std::uint64_t> made{0};
   std::vector<std::atomic<int>> of = std::vector<std::atomic<int>>(kMostThreads * kCalls);
+  std::vector<std::atomic<int>> shown = std::vector<std::atomic<int>>(kMostThreads * kCalls);
 
   // The number of objects that were not deleted exactly this often.
   std::uint64_t unlike(int wanted) const {
     std::uint64_t count = 0;
-    for (std::uint64_t number = 0; number < made; number++) count += of[number] != wanted;
+    for (std::uint64_t number = 0; number < made; number++) {
+      count += of[number] != wanted || shown[number] != wanted;
+    }
     return count;
   }
 };
@@ -49,6 +53,9 @@ class Object {
   Object& operator=(const Object&) = delete;
 
   bool fits(std::uint64_t key) const { return key_ == key && deletions_->of[number_] == 0; }
+  void show() const {
+    if (deletions_->of[number_] == 0) deletions_->shown[number_]++;
+  }
 
  private:
   std::uint64_t key_;
@@ -63,8 +70,9 @@ struct Failed {};
 template <class KeyOf, class Cache>
 std::uint64_t calls(Cache& cache, std::uint64_t seed, Deletions* deletions) {
   Random random(seed);
-  std::uint64_t wrong = 0;
+  std::uint64_t wrong = 0, made_for = 0;
   typename Cache::Handle held[4];
+  typename Cache::Maker maker;
   std::uint64_t keys[4] = {};
   for (std::uint64_t call = 0; call < kCalls; call++) {
     const std::uint64_t n = random.below(kKeys);
@@ -94,7 +102,23 @@ std::uint64_t calls(Cache& cache, std::uint64_t seed, Deletions* deletions) {
         held[slot] = cache.get(key.key());
         keys[slot] = n;
         break;
+      case 9:
+      case 10:
+      case 11: {
+        // Two that have makers may not wait for each other.
+        auto begun = maker ? cache.try_begin(key.key(), 1) : cache.begin(key.key(), 1);
+        held[slot] = std::move(begun.handle);
+        keys[slot] = n;
+        if (begun.maker) made_for = n, maker = std::move(begun.maker);
+        break;
+      }
+      case 12:
+      case 13:
+        wrong += cache.read(key.key(), [n](const Object& object) { return !object.fits(n); })
+                     .value_or(false);
+        break;
       default:
+        if (maker) keys[0] = made_for, held[0] = maker.ready(made_for, deletions);
         const bool fails = random.below(10) >= 8;
         try {
           held[slot] = cache.get_or_init(key.key(), 1 + random.below(4), [&](typename KeyOf::Key) {
@@ -125,7 +149,7 @@ bool stress(const char* name, std::size_t threads) {
   std::atomic<std::uint64_t> wrong{0};
   std::uint64_t left = 0;
   {
-    Cache cache(kCapacity);
+    Cache cache(kCapacity, [](auto&&, const Object& object, lru::Reason) { object.show(); });
     std::vector<std::thread> all;
     for (std::size_t t = 0; t < threads; t++) {
       all.emplace_back([&, t] { wrong += calls<KeyOf>(cache, t + 1, &deletions); });

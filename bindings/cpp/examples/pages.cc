@@ -44,7 +44,7 @@ int main(int argc, char** argv) try {
   if (argc != 3) throw std::invalid_argument("usage: pages FILE CAPACITY");
   const std::string path = argv[1];
   const std::uint64_t capacity = std::strtoull(argv[2], nullptr, 10);
-  Pages pages(capacity, lru::shards_for(capacity, kPageSize));
+  Pages pages(capacity, lru::TypicalCharge(kPageSize));
   const auto start = [&](char wanted) {
     return std::async(std::launch::async, [&, wanted] { return count(pages, path, wanted); });
   };

@@ -1,17 +1,19 @@
 //! The reasons why a call fails.
 
+use std::collections::TryReserveError;
 use std::error::Error;
 use std::fmt;
 use std::io;
 
-/// The reason why the cache refused a call. The cache did not change.
+/// The reason why the cache refused a call. The cache did not change, unless the call says so.
 #[derive(Debug, Clone, Copy, PartialEq, Eq, Hash)]
 #[non_exhaustive]
 pub enum Refusal {
     /// The cache could not allocate memory. The call can be repeated.
     Memory,
     /// A number would overflow: the total of all charges would exceed `u64::MAX`, a value would get
-    /// more than `u32::MAX` handles, or `u64::MAX` values have been made.
+    /// more than `u32::MAX` handles, or about a billion in a [`clock::Cache`](crate::clock::Cache),
+    /// or `u64::MAX` values have been made.
     Overflow,
     /// The charge was 0.
     ZeroCharge,
@@ -32,6 +34,11 @@ impl fmt::Display for Refusal {
 }
 
 impl Error for Refusal {}
+
+/// What `try_reserve` of a list or a map returned, as the refusal of a call.
+pub(crate) fn room(reserved: Result<(), TryReserveError>) -> Result<(), Refusal> {
+    reserved.map_err(|_| Refusal::Memory)
+}
 
 /// The reason why `get_or_try_init` returns no handle.
 #[derive(Debug, Clone, Copy, PartialEq, Eq, Hash)]

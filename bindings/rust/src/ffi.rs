@@ -1,10 +1,11 @@
 //! The types and codes of `bindings/c/lru.h`, under their names there without `lru_`, and its
-//! functions that take no key.
+//! functions, except those on a cache that take a key.
 
 use std::ffi::c_void;
 use std::ptr;
 
-/// `lru_cache` and `lru_chain`: a cache, or a chain of evicted entries.
+/// `lru_cache`, `lru_chain`, `lru_clock` and `lru_reader`: a cache, a chain of evicted entries, a
+/// clock, or a reader of one.
 #[repr(C)]
 pub struct Handle {
     at: *mut c_void,
@@ -88,6 +89,33 @@ pub struct Stats {
     pub capacity: u64,
 }
 
+/// `lru_found`: the answer of a function of the clock.
+#[repr(C)]
+#[derive(Debug, Clone, Copy)]
+pub struct Found {
+    pub value: u64,
+    pub code: u32,
+    pub place: u32,
+}
+
+impl Found {
+    /// The answer for a handle that is not open.
+    pub const CLOSED: Found = Found {
+        value: 0,
+        code: CLOSED,
+        place: 0,
+    };
+}
+
+/// `lru_left`: an entry that left a clock.
+#[repr(C)]
+#[derive(Debug, Clone, Copy, Default)]
+pub struct Left {
+    pub first: u64,
+    pub second: u64,
+    pub value: u64,
+}
+
 pub const MAKE: u32 = 0;
 pub const WAIT: u32 = 1;
 pub const HIT: u32 = 2;
@@ -99,9 +127,13 @@ pub const OVERFLOW: u32 = 7;
 pub const MEMORY: u32 = 9;
 pub const NUMBER: u32 = 10;
 pub const NO_CHARGE: u32 = 11;
+pub const CLOSED: u32 = 14;
+pub const NOT_EMPTY: u32 = 16;
 pub const NO_ROOM: u32 = 17;
 pub const PINNED: u32 = 18;
 pub const FULL: u32 = 20;
+pub const GONE: u32 = 22;
+pub const LAST: u32 = 23;
 
 pub const BYTES: u32 = 0;
 pub const WORDS: u32 = 1;
@@ -121,7 +153,6 @@ unsafe extern "C" {
         value: u64,
     ) -> u32;
     pub fn lru_cache_fail(cache: *mut Handle, pin: Pin) -> u32;
-    pub fn lru_cache_entry(cache: *mut Handle, pin: Pin, out: *mut Entry) -> u32;
     pub fn lru_cache_repin(cache: *mut Handle, pin: Pin) -> Told;
     pub fn lru_cache_release_at(
         cache: *mut Handle,
@@ -133,6 +164,7 @@ unsafe extern "C" {
     pub fn lru_cache_release_and_evict(cache: *mut Handle, pin: Pin, gone: *mut Handle) -> u32;
     pub fn lru_cache_prune(cache: *mut Handle, gone: *mut Handle) -> u32;
     pub fn lru_cache_set_capacity(cache: *mut Handle, capacity: u64, gone: *mut Handle) -> u32;
+    pub fn lru_cache_reserve(cache: *mut Handle, entries: usize) -> u32;
     pub fn lru_cache_total(cache: *mut Handle) -> Told;
     pub fn lru_cache_pinned_charge(cache: *mut Handle) -> Told;
     pub fn lru_cache_capacity(cache: *mut Handle) -> Told;
@@ -142,4 +174,57 @@ unsafe extern "C" {
     pub fn lru_chain_new(out: *mut Handle) -> u32;
     pub fn lru_chain_free(chain: *mut Handle) -> u32;
     pub fn lru_chain_pop(chain: *mut Handle, out: *mut Gone) -> bool;
+}
+
+// A caller of these guarantees that `clock` points to a clock and `reader` to a reader, that they
+// are the only copies of these handles, and that nothing else uses them during the call. Handles
+// that are not open are refused.
+unsafe extern "C" {
+    pub fn lru_clock_new(capacity: u64, out: *mut Handle) -> u32;
+    pub fn lru_clock_free(clock: *mut Handle) -> u32;
+    pub fn lru_reader_new(clock: *mut Handle, out: *mut Handle) -> u32;
+    pub fn lru_reader_free(reader: *mut Handle) -> u32;
+    pub fn lru_reader_pin(reader: *mut Handle, hash: u64, first: u64, second: u64) -> Found;
+    pub fn lru_reader_pin_at(reader: *mut Handle, place: u32) -> Found;
+    pub fn lru_reader_unpin(reader: *mut Handle, place: u32) -> u32;
+    pub fn lru_clock_begin(
+        clock: *mut Handle,
+        hash: u64,
+        first: u64,
+        second: u64,
+        charge: u64,
+    ) -> Found;
+    pub fn lru_clock_ready(
+        clock: *mut Handle,
+        ticket: u64,
+        hash: u64,
+        charge: u64,
+        value: u64,
+    ) -> Found;
+    pub fn lru_clock_fail(clock: *mut Handle, ticket: u64) -> u32;
+    pub fn lru_clock_make_room(clock: *mut Handle, charge: u64, left: *mut Left) -> u32;
+    pub fn lru_clock_add(
+        clock: *mut Handle,
+        hash: u64,
+        first: u64,
+        second: u64,
+        charge: u64,
+        value: u64,
+    ) -> Found;
+    pub fn lru_clock_find(clock: *mut Handle, hash: u64, first: u64, second: u64) -> Found;
+    pub fn lru_clock_erase(
+        clock: *mut Handle,
+        hash: u64,
+        first: u64,
+        second: u64,
+        left: *mut Left,
+    ) -> u32;
+    pub fn lru_clock_collect(clock: *mut Handle, place: u32, left: *mut Left) -> u32;
+    pub fn lru_clock_prune(clock: *mut Handle, next: *mut u32, left: *mut Left) -> u32;
+    pub fn lru_clock_set_capacity(clock: *mut Handle, capacity: u64) -> u32;
+    pub fn lru_clock_total(clock: *mut Handle) -> Found;
+    pub fn lru_clock_pinned_charge(clock: *mut Handle) -> Found;
+    pub fn lru_clock_capacity(clock: *mut Handle) -> Found;
+    pub fn lru_clock_len(clock: *mut Handle) -> Found;
+    pub fn lru_clock_places(clock: *mut Handle) -> Found;
 }

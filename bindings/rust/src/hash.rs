@@ -1,4 +1,4 @@
-//! The hash of keys of bytes, which the library takes with them.
+//! The hashes that the library takes with a key: of bytes, and of the two words of a clock's key.
 
 /// Hashes bytes with a seed, as `lru_hash_bytes` of `lru.h` does: eight at a time, except that the
 /// last ones are left to the multiplication of the library. The first two numbers are not those
@@ -17,8 +17,16 @@ pub(crate) fn hash_of(bytes: &[u8], seed: u64) -> u64 {
     hash ^ word_of(rest)
 }
 
+/// Hashes the two words of a key with a seed. A clock takes the upper half of the hash.
+#[inline]
+pub(crate) fn hash_of_words([first, second]: [u64; 2], seed: u64) -> u64 {
+    let hash = multiply(0x1319_8a2e_0370_7344 ^ seed ^ first, 0x94d0_49bb_1331_11eb);
+    multiply(hash ^ second, 0x9e37_79b9_7f4a_7c15)
+}
+
 /// Joins both halves of a product. No second factor is ever 0 here, so without the seed nobody can
 /// tell which keys have hashes in common.
+#[inline]
 fn multiply(a: u64, b: u64) -> u64 {
     let product = u128::from(a) * u128::from(b);
     product as u64 ^ (product >> 64) as u64
@@ -41,7 +49,8 @@ fn word_of(bytes: &[u8]) -> u64 {
 
 #[cfg(test)]
 mod tests {
-    use super::hash_of;
+    use super::{hash_of, hash_of_words};
+    use std::collections::HashSet;
 
     /// As in `bindings/c/test.c`.
     #[test]
@@ -54,5 +63,15 @@ mod tests {
         assert_eq!(hash_of(b"abcdefghi", 7), 0x8b35_b078_1ec3_e4c1);
         assert_eq!(hash_of(b"abcdefghijklmnop", 7), 0xccda_7658_6513_5297);
         assert_eq!(hash_of(b"abcdefghijklmnopqrs", 7), 0x033b_2096_655d_1f1f);
+    }
+    #[test]
+    fn both_words_and_the_seed_count_in_both_halves_of_a_hash() {
+        let keys = (0..1000).flat_map(|word| [([word, 5], 0), ([5, word], 1), ([5, 7000], word)]);
+        let hashes = keys.map(|(key, seed)| hash_of_words(key, seed));
+        let (low, high): (HashSet<_>, HashSet<_>) = hashes
+            .map(|hash| (hash as u32, (hash >> 32) as u32))
+            .unzip();
+        // Some halves may be equal.
+        assert!(low.len() > 2990 && high.len() > 2990);
     }
 }

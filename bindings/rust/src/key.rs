@@ -4,16 +4,18 @@ use std::borrow::Cow;
 use std::ffi::{OsStr, OsString};
 use std::net::{IpAddr, Ipv4Addr, Ipv6Addr, SocketAddr, SocketAddrV4, SocketAddrV6};
 use std::num::{
-    NonZeroI8, NonZeroI16, NonZeroI32, NonZeroI64, NonZeroIsize, NonZeroU8, NonZeroU16, NonZeroU32,
-    NonZeroU64, NonZeroUsize,
+    NonZeroI8, NonZeroI16, NonZeroI32, NonZeroI64, NonZeroI128, NonZeroIsize, NonZeroU8,
+    NonZeroU16, NonZeroU32, NonZeroU64, NonZeroU128, NonZeroUsize,
 };
 use std::path::{Path, PathBuf};
 use std::rc::Rc;
 use std::sync::Arc;
+use std::time::Duration;
 
-pub use crate::form::{Bytes, CowBytes, Form, Words, Written};
+pub use crate::form::{Bytes, CowBytes, Form, Word, Words, WordsForm, Written};
 
-use crate::form::sealed::Calls;
+use crate::form::sealed::Writing;
+use crate::form::{self, pair};
 
 /// A key that the library can store: it is written as bytes or as two words.
 ///
@@ -24,14 +26,15 @@ use crate::form::sealed::Calls;
 ///
 /// These types are keys:
 ///
-/// - Integers, `char`, `bool`, [`Ipv4Addr`], [`Ipv6Addr`] and [`SocketAddrV4`], and pairs of those
-///   that have at most 64 bits. They are written as words, which are faster to look up.
-/// - Strings and slices of bytes. They are written as bytes, which the cache copies for each entry
-///   that it makes.
+/// - Integers, `char`, `bool`, [`Ipv4Addr`], [`Ipv6Addr`], [`SocketAddrV4`] and [`Duration`], and
+///   pairs of those that have at most 64 bits. They are written as words, which are faster to look
+///   up.
+/// - Strings, and slices and arrays of bytes. They are written as bytes, which the cache copies for
+///   each entry that it makes.
 /// - Paths, [`IpAddr`], [`SocketAddr`], [`SocketAddrV6`], an [`Option`] of a key, all other pairs
-///   of these types, such as `(String, u64)`, and any three or four keys. Their bytes are put
-///   together in each call.
-/// - References to keys, and keys in a [`Box`], an [`Arc`] or an [`Rc`].
+///   of keys, such as `(String, u64)`, any three or four keys, and arrays of integers, strings and
+///   pairs. Their bytes are put together in each call.
+/// - References to keys, and keys in a [`Box`], an [`Arc`], an [`Rc`] or a [`Cow`].
 ///
 /// # Examples
 ///
@@ -86,12 +89,36 @@ use crate::form::sealed::Calls;
 /// # Ok(())
 /// # }
 /// ```
+#[diagnostic::on_unimplemented(
+    message = "`{Self}` is no key of a cache",
+    note = "strings, bytes, paths, integers, network addresses, tuples of keys and references to \
+            keys are keys",
+    note = "a type of your own takes a few lines: `impl concurrent_lru_proved::key::Key`"
+)]
 pub trait Key {
-    /// [`Bytes`], [`CowBytes`] or [`Words`].
+    /// [`Bytes`], [`CowBytes`], [`Word`] or [`Words`].
     type Form: Form;
 
     /// Returns the bytes or the words of this key.
     fn written(&self) -> Written<'_, Self::Form>;
+}
+
+/// A key that is written as words, as the keys of a [`clock::Cache`](crate::clock::Cache) must be:
+/// each [`Key`] whose form is [`Word`] or [`Words`].
+///
+/// These are integers, `char`, `bool`, [`Ipv4Addr`], [`Ipv6Addr`], [`SocketAddrV4`] and
+/// [`Duration`], pairs of those that have at most 64 bits, and types of your own that are written
+/// as words. Strings and other keys that are written as bytes are not.
+pub trait WordsKey: Key {
+    /// Returns the words of this key.
+    fn words(&self) -> [u64; 2];
+}
+
+impl<K: Key<Form: WordsForm> + ?Sized> WordsKey for K {
+    #[inline]
+    fn words(&self) -> [u64; 2] {
+        K::Form::raw(&self.written())
+    }
 }
 
 impl<K: Key + ?Sized> Key for &K {
@@ -118,6 +145,14 @@ impl<K: Key + ?Sized> Key for Arc<K> {
     }
 }
 
+impl<K: Key + ToOwned + ?Sized> Key for Cow<'_, K> {
+    type Form = K::Form;
+
+    fn written(&self) -> Written<'_, K::Form> {
+        (**self).written()
+    }
+}
+
 impl<K: Key + ?Sized> Key for Rc<K> {
     type Form = K::Form;
 
@@ -131,6 +166,7 @@ macro_rules! written_as_bytes {
         impl Key for $key {
             type Form = Bytes;
 
+            #[inline]
             fn written(&self) -> &[u8] {
                 let bytes: fn(&$key) -> &[u8] = $bytes;
                 bytes(self)
@@ -156,26 +192,15 @@ impl<const N: usize> Key for [u8; N] {
     }
 }
 
-/// A key of at most 64 bits.
-trait Word: Copy {
-    /// Different keys of one type have different words.
-    fn word(self) -> u64;
-}
-
 macro_rules! written_as_a_word {
     ($($key:ty: $word:expr;)*) => {$(
-        impl Word for $key {
-            fn word(self) -> u64 {
-                let word: fn($key) -> u64 = $word;
-                word(self)
-            }
-        }
-
         impl Key for $key {
-            type Form = Words;
+            type Form = Word;
 
+            #[inline]
             fn written(&self) -> [u64; 2] {
-                [0, self.word()]
+                let word: fn($key) -> u64 = $word;
+                [0, word(*self)]
             }
         }
     )*};
@@ -195,18 +220,18 @@ written_as_a_word! {
     i32: |key| key as u64;
     i64: |key| key as u64;
     isize: |key| key as u64;
-    NonZeroU8: |key| key.get().word();
-    NonZeroU16: |key| key.get().word();
-    NonZeroU32: |key| key.get().word();
-    NonZeroU64: |key| key.get().word();
-    NonZeroUsize: |key| key.get().word();
-    NonZeroI8: |key| key.get().word();
-    NonZeroI16: |key| key.get().word();
-    NonZeroI32: |key| key.get().word();
-    NonZeroI64: |key| key.get().word();
-    NonZeroIsize: |key| key.get().word();
+    NonZeroU8: |key| key.get() as u64;
+    NonZeroU16: |key| key.get() as u64;
+    NonZeroU32: |key| key.get() as u64;
+    NonZeroU64: |key| key.get();
+    NonZeroUsize: |key| key.get() as u64;
+    NonZeroI8: |key| key.get() as u64;
+    NonZeroI16: |key| key.get() as u64;
+    NonZeroI32: |key| key.get() as u64;
+    NonZeroI64: |key| key.get() as u64;
+    NonZeroIsize: |key| key.get() as u64;
     Ipv4Addr: |key| u32::from(key).into();
-    SocketAddrV4: |key| key.ip().word() << 16 | key.port().word();
+    SocketAddrV4: |key| u64::from(u32::from(*key.ip())) << 16 | u64::from(key.port());
 }
 
 macro_rules! written_as_words {
@@ -214,6 +239,7 @@ macro_rules! written_as_words {
         impl Key for $key {
             type Form = Words;
 
+            #[inline]
             fn written(&self) -> [u64; 2] {
                 let words: fn($key) -> [u64; 2] = $words;
                 words(*self)
@@ -226,14 +252,19 @@ written_as_words! {
     u128: |key| [(key >> 64) as u64, key as u64];
     i128: |key| (key as u128).written();
     Ipv6Addr: |key| u128::from(key).written();
+    NonZeroU128: |key| key.get().written();
+    NonZeroI128: |key| key.get().written();
+    Duration: |key| [key.as_secs(), key.subsec_nanos().into()];
     [u64; 2]: |key| key;
 }
 
-impl<A: Word, B: Word> Key for (A, B) {
-    type Form = Words;
+/// Pairs of two keys of at most 64 bits are written as words, and all others as bytes.
+impl<A: Key, B: Key> Key for (A, B) {
+    type Form = <A::Form as Writing>::Before<B::Form>;
 
-    fn written(&self) -> [u64; 2] {
-        [self.0.word(), self.1.word()]
+    #[inline]
+    fn written(&self) -> Written<'_, Self::Form> {
+        pair::<A::Form, B::Form>(self.0.written(), self.1.written())
     }
 }
 
@@ -320,45 +351,42 @@ macro_rules! written_one_after_another {
 }
 
 fn append<K: Key>(key: &K, bytes: &mut Vec<u8>) {
-    K::Form::append(key.written(), bytes);
+    form::append::<K::Form>(&key.written(), bytes);
 }
 
-/// Pairs with one of these types, each after its generic parameters. They are those that are keys
-/// and have no `Word`: a pair of words has an implementation already.
-macro_rules! pairs_with {
-    ($([$($parameter:tt)*] $long:ty;)*) => {$(
-        impl<$($parameter)* B: Key> Key for ($long, B) {
-            written_one_after_another!(0 1);
-        }
+/// Arrays of these types. Those of bytes, and of two `u64`, have forms of their own.
+macro_rules! arrays_of {
+    ($([$($parameter:tt)*] $key:ty;)*) => {$(
+        impl<$($parameter)* const N: usize> Key for [$key; N] {
+            type Form = CowBytes;
 
-        impl<$($parameter)* A: Key + Word> Key for (A, $long) {
-            written_one_after_another!(0 1);
+            fn written(&self) -> Cow<'_, [u8]> {
+                let mut bytes = Vec::new();
+                self.iter().for_each(|key| append(key, &mut bytes));
+                bytes.into()
+            }
         }
     )*};
 }
 
-pairs_with! {
-    [] Vec<u8>;
-    [] Box<[u8]>;
-    [] &[u8];
-    [] String;
-    [] Box<str>;
-    [] &str;
-    [] OsString;
-    [] &OsStr;
-    [] PathBuf;
-    [] &Path;
+arrays_of! {
+    [] bool;
+    [] char;
+    [] u16;
+    [] u32;
+    [] usize;
     [] u128;
+    [] i8;
+    [] i16;
+    [] i32;
+    [] i64;
+    [] isize;
     [] i128;
-    [] IpAddr;
-    [] Ipv6Addr;
-    [] SocketAddr;
-    [] SocketAddrV6;
-    [] [u64; 2];
-    [const N: usize,] [u8; N];
-    [K: Key,] Option<K>;
+    [] String;
+    [] PathBuf;
+    [K: Key + ?Sized,] &K;
     [K: Key + ?Sized,] Arc<K>;
-    [K: Key + ?Sized,] Rc<K>;
+    [A: Key, B: Key,] (A, B);
 }
 
 impl<A: Key, B: Key, C: Key> Key for (A, B, C) {

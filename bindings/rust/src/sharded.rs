@@ -14,6 +14,8 @@ use crate::error::{GetError, Refusal};
 use crate::ffi::Pin;
 use crate::form::Written;
 use crate::key::Key;
+use crate::leaving::{Leaving, Listener};
+use crate::makings;
 use crate::proved::random_seed;
 use crate::stats::Stats;
 use crate::unsharded;
@@ -141,6 +143,47 @@ impl<K: Key + ?Sized, V, S> LruCache<K, V, S> {
         })
     }
 
+    /// Has `listener` told of each value that leaves the cache, as
+    /// [`unsharded::LruCache::with_listener`] does. Threads may call it at the same time.
+    #[must_use]
+    pub fn with_listener(
+        self,
+        listener: impl Fn(Leaving<'_, V, Written<'_, K::Form>>) + Send + Sync + 'static,
+    ) -> Self {
+        let listener: Listener<K::Form, V> = Arc::new(listener);
+        let shards = self.shards.into_iter();
+        LruCache {
+            shards: shards
+                .map(|shard| shard.with_shared_listener(Arc::clone(&listener)))
+                .collect(),
+            hasher: self.hasher,
+        }
+    }
+
+    /// Also measures how long it takes to make values, as
+    /// [`unsharded::LruCache::with_load_times`] does.
+    #[must_use]
+    pub fn with_load_times(self) -> Self {
+        let shards = self.shards.into_iter();
+        LruCache {
+            shards: shards.map(unsharded::LruCache::with_load_times).collect(),
+            hasher: self.hasher,
+        }
+    }
+
+    /// Makes room for `entries` values, an equal share in each shard, as
+    /// [`unsharded::LruCache::reserve`] does.
+    ///
+    /// # Errors
+    ///
+    /// As [`unsharded::LruCache::reserve`]. The shards before the one that refused have room then.
+    pub fn reserve(&self, entries: usize) -> Result<(), Refusal> {
+        let share = entries.div_ceil(self.shards.len());
+        self.shards
+            .iter()
+            .try_for_each(|shard| shard.reserve(share))
+    }
+
     /// Evicts every idle value, one shard after another.
     pub fn prune(&self) {
         for shard in &self.shards {
@@ -258,6 +301,7 @@ impl<K: Key + ?Sized, V, S: BuildHasher> LruCache<K, V, S> {
     /// # Errors
     ///
     /// As [`unsharded::LruCache::get`].
+    #[inline]
     pub fn get<Q>(&self, key: &Q) -> Result<Option<CacheHandle<'_, K, V>>, Refusal>
     where
         K: Borrow<Q>,
@@ -267,8 +311,9 @@ impl<K: Key + ?Sized, V, S: BuildHasher> LruCache<K, V, S> {
         Ok(found.map(CacheHandle))
     }
 
-    /// Calls `reader` with the key's value, which is pinned meanwhile, and returns its result, or
-    /// `None` if there is no value or it is still being made. Does not wait.
+    /// Calls `reader` with the key's value, and returns its result, or `None` if there is no value
+    /// or it is still being made. Does not wait. The lock of the shard is held meanwhile, so
+    /// `reader` must not call the cache or drop a handle of it.
     ///
     /// # Errors
     ///
@@ -319,6 +364,131 @@ impl<K: Key + ?Sized, V, S: BuildHasher> LruCache<K, V, S> {
     {
         let handle = self.shard(key).get_or_try_init(key, charge, init)?;
         Ok(CacheHandle(handle))
+    }
+
+    /// Returns a handle of the key's value, or a guard with which the caller makes it, while other
+    /// callers that ask for the key wait.
+    ///
+    /// # Errors
+    ///
+    /// As [`unsharded::LruCache::get_or_init`].
+    pub fn begin<Q>(&self, key: &Q, charge: u64) -> Result<Begun<'_, K, V>, Refusal>
+    where
+        K: Borrow<Q>,
+        Q: Key<Form = K::Form> + Hash + ?Sized,
+    {
+        Ok(wrap(self.shard(key).begin(key, charge)?))
+    }
+
+    /// Returns what [`begin`](Self::begin) returns, or `None` if another caller makes the value.
+    /// Does not wait.
+    ///
+    /// # Errors
+    ///
+    /// As [`unsharded::LruCache::try_begin`].
+    pub fn try_begin<Q>(&self, key: &Q, charge: u64) -> Result<Option<Begun<'_, K, V>>, Refusal>
+    where
+        K: Borrow<Q>,
+        Q: Key<Form = K::Form> + Hash + ?Sized,
+    {
+        Ok(self.shard(key).try_begin(key, charge)?.map(wrap))
+    }
+
+    /// Returns what [`begin`](Self::begin) returns, without blocking the thread meanwhile.
+    ///
+    /// # Errors
+    ///
+    /// As [`unsharded::LruCache::begin_async`].
+    pub async fn begin_async<Q>(&self, key: &Q, charge: u64) -> Result<Begun<'_, K, V>, Refusal>
+    where
+        K: Borrow<Q>,
+        Q: Key<Form = K::Form> + Hash + ?Sized,
+    {
+        Ok(wrap(self.shard(key).begin_async(key, charge).await?))
+    }
+
+    /// Returns what [`get_or_init`](Self::get_or_init) returns, without blocking the thread
+    /// meanwhile, as [`unsharded::LruCache::get_or_init_async`] does.
+    ///
+    /// # Errors
+    ///
+    /// As [`unsharded::LruCache::begin_async`].
+    pub async fn get_or_init_async<Q>(
+        &self,
+        key: &Q,
+        charge: u64,
+        init: impl Future<Output = V>,
+    ) -> Result<CacheHandle<'_, K, V>, Refusal>
+    where
+        K: Borrow<Q>,
+        Q: Key<Form = K::Form> + Hash + ?Sized,
+    {
+        let shard = self.shard(key);
+        let handle = shard.get_or_init_async(key, charge, init).await?;
+        Ok(CacheHandle(handle))
+    }
+
+    /// Returns what [`get_or_try_init`](Self::get_or_try_init) returns, without blocking the thread
+    /// meanwhile, as [`unsharded::LruCache::get_or_try_init_async`] does.
+    ///
+    /// # Errors
+    ///
+    /// As [`unsharded::LruCache::get_or_try_init_async`].
+    pub async fn get_or_try_init_async<Q, E>(
+        &self,
+        key: &Q,
+        charge: u64,
+        init: impl Future<Output = Result<V, E>>,
+    ) -> Result<CacheHandle<'_, K, V>, GetError<E>>
+    where
+        K: Borrow<Q>,
+        Q: Key<Form = K::Form> + Hash + ?Sized,
+    {
+        let shard = self.shard(key);
+        let handle = shard.get_or_try_init_async(key, charge, init).await?;
+        Ok(CacheHandle(handle))
+    }
+
+    /// Returns what [`get_or_init_async`](Self::get_or_init_async) returns, with a handle that
+    /// borrows nothing and keeps the cache alive.
+    ///
+    /// # Errors
+    ///
+    /// As [`unsharded::LruCache::begin_async`].
+    pub async fn get_or_init_owned_async<Q>(
+        self: &Arc<Self>,
+        key: &Q,
+        charge: u64,
+        init: impl Future<Output = V>,
+    ) -> Result<OwnedHandle<K, V, S>, Refusal>
+    where
+        K: Borrow<Q>,
+        Q: Key<Form = K::Form> + Hash + ?Sized,
+    {
+        let shard = self.shard_of(key);
+        let made = self.shards[shard].get_or_init_async(key, charge, init);
+        Ok(OwnedHandle::of(self, shard, made.await?))
+    }
+
+    /// Returns what [`get_or_try_init_async`](Self::get_or_try_init_async) returns, with a handle
+    /// that borrows nothing and keeps the cache alive.
+    ///
+    /// # Errors
+    ///
+    /// As [`unsharded::LruCache::get_or_try_init_async`].
+    pub async fn get_or_try_init_owned_async<Q, E>(
+        self: &Arc<Self>,
+        key: &Q,
+        charge: u64,
+        init: impl Future<Output = Result<V, E>>,
+    ) -> Result<OwnedHandle<K, V, S>, GetError<E>>
+    where
+        K: Borrow<Q>,
+        Q: Key<Form = K::Form> + Hash + ?Sized,
+    {
+        let shard = self.shard_of(key);
+        let made = self.shards[shard].get_or_try_init_async(key, charge, init);
+        Ok(OwnedHandle::of(self, shard, made.await?))
     }
 
     /// Returns what [`get`](Self::get) returns, with a handle that borrows nothing and keeps the
@@ -452,13 +622,35 @@ impl<K: Key + ?Sized, V, S: BuildHasher> LruCache<K, V, S> {
 }
 
 /// The capacity of each shard.
-fn share(capacity: u64, shards: usize) -> u64 {
+pub(crate) fn share(capacity: u64, shards: usize) -> u64 {
     capacity.div_ceil(shards as u64)
 }
 
 impl<K: Key + ?Sized, V, S> fmt::Debug for LruCache<K, V, S> {
     fn fmt(&self, f: &mut fmt::Formatter<'_>) -> fmt::Result {
         f.debug_list().entries(&self.shards).finish()
+    }
+}
+
+/// What a caller that asks for a value gets.
+pub type Begun<'a, K, V> = makings::Begun<CacheHandle<'a, K, V>, Maker<'a, K, V>>;
+
+fn wrap<K: Key + ?Sized, V>(begun: unsharded::Begun<'_, K, V>) -> Begun<'_, K, V> {
+    match begun {
+        makings::Begun::Hit(handle) => Begun::Hit(CacheHandle(handle)),
+        makings::Begun::Make(maker) => Begun::Make(Maker(maker)),
+    }
+}
+
+/// The duty to make a value, as [`unsharded::Maker`].
+#[derive(Debug)]
+#[must_use = "the making fails if this is dropped"]
+pub struct Maker<'a, K: Key + ?Sized, V>(unsharded::Maker<'a, K, V>);
+
+impl<'a, K: Key + ?Sized, V> Maker<'a, K, V> {
+    /// Makes `value` the value, as [`unsharded::Maker::ready`] does.
+    pub fn ready(self, value: V) -> CacheHandle<'a, K, V> {
+        CacheHandle(self.0.ready(value))
     }
 }
 

@@ -1,6 +1,9 @@
 //! Counts of what the calls on a cache have found and done.
 
+use std::time::Duration;
+
 use crate::ffi;
+use crate::makings::Loads;
 
 /// What the calls on a cache have found and done since it was created, and what it holds now.
 ///
@@ -31,7 +34,7 @@ pub struct Stats {
     pub hits: u64,
     /// Calls that asked for a value and found none, and did not wait.
     pub misses: u64,
-    /// Calls that found the value being made, and waited for it.
+    /// Calls that found the value being made, and waited for it, or were told so by `try_begin`.
     pub waits: u64,
     /// Values that were inserted, or whose making was begun.
     pub insertions: u64,
@@ -39,6 +42,13 @@ pub struct Stats {
     pub evictions: u64,
     /// Values whose making failed while no caller waited for them.
     pub removals: u64,
+    /// Values that were made, by an `init` or by other holders of a `Maker`.
+    pub loads: u64,
+    /// Values that could not be made: `init` failed, panicked or was dropped, or a `Maker` was.
+    pub load_failures: u64,
+    /// The time that these took in all, from the call that was to make the value until it was made
+    /// or could not be made. Zero unless the cache was created `with_load_times`.
+    pub load_time: Duration,
     /// Values present, as `len` returns it.
     pub entries: u64,
     /// The total of their charges, as `total_charge` returns it.
@@ -68,16 +78,17 @@ impl Stats {
             insertions: self.insertions.saturating_add(other.insertions),
             evictions: self.evictions.saturating_add(other.evictions),
             removals: self.removals.saturating_add(other.removals),
+            loads: self.loads.saturating_add(other.loads),
+            load_failures: self.load_failures.saturating_add(other.load_failures),
+            load_time: self.load_time.saturating_add(other.load_time),
             entries: self.entries.saturating_add(other.entries),
             charge: self.charge.saturating_add(other.charge),
             pinned_charge: self.pinned_charge.saturating_add(other.pinned_charge),
             capacity: self.capacity.saturating_add(other.capacity),
         }
     }
-}
 
-impl From<ffi::Stats> for Stats {
-    fn from(told: ffi::Stats) -> Stats {
+    pub(crate) fn new(told: ffi::Stats, loads: Loads) -> Stats {
         Stats {
             hits: told.hits,
             misses: told.misses,
@@ -85,6 +96,9 @@ impl From<ffi::Stats> for Stats {
             insertions: told.insertions,
             evictions: told.evictions,
             removals: told.removals,
+            loads: loads.made,
+            load_failures: loads.failed,
+            load_time: loads.time,
             entries: told.entries,
             charge: told.charge.into(),
             pinned_charge: told.pinned_charge.into(),

@@ -3,20 +3,24 @@
 use std::borrow::Borrow;
 use std::convert::Infallible;
 use std::fmt;
+use std::future;
 use std::marker::PhantomData;
 use std::mem::{self, ManuallyDrop};
 use std::ops::Deref;
+use std::panic::AssertUnwindSafe;
 use std::ptr::{self, NonNull};
 use std::sync::{Arc, Condvar, Mutex, MutexGuard, PoisonError};
+use std::task::{Context, Poll};
+use std::time::{Duration, Instant};
 
 use crate::entry::EntryRef;
 use crate::error::{GetError, Refusal};
-use crate::ffi::Pin;
-use crate::form::sealed::Calls;
-use crate::form::{Form, Hashed, Written};
+use crate::ffi::{Gone, Pin};
+use crate::form::{self, Form, Hashed, Written};
 use crate::key::Key;
-use crate::makings::Makings;
-use crate::proved::{Begun, Core, Evicted, random_seed};
+use crate::leaving::{Evicted, Leaving, Listener, Reason};
+use crate::makings::{self, Loads, Makings, Sleepers};
+use crate::proved::{Asked, Core, random_seed};
 use crate::stats::Stats;
 
 /// A cache of heavy values that threads share, behind one lock.
@@ -71,8 +75,10 @@ pub struct LruCache<K: Key + ?Sized, V> {
     shared: Mutex<Shared<K::Form, V>>,
     /// With this, keys are hashed before the lock is taken.
     seed: u64,
-    /// Notified when a value was made, or could not be made, that others wait for.
+    /// Notified when a value was made, or could not be made, that threads wait for.
     ended: Condvar,
+    listener: Option<AssertUnwindSafe<Listener<K::Form, V>>>,
+    times_loads: bool,
     keys: PhantomData<fn(&K)>,
     // Threads that share a cache also share its values, through handles.
     values: PhantomData<V>,
@@ -81,10 +87,61 @@ pub struct LruCache<K: Key + ?Sized, V> {
 /// What the lock guards.
 struct Shared<F: Form, V> {
     core: Core<F, V>,
-    /// The number of callers that wait for a value.
-    waiting: usize,
-    /// The values that are being made. There is room for one of each caller that waits.
     makings: Makings,
+    loads: Loads,
+}
+
+impl<F: Form, V> Shared<F, V> {
+    /// Asks for a key, as [`Core::begin`] does. A caller that is told to wait is counted.
+    #[inline]
+    fn begin(
+        &mut self,
+        key: Hashed<'_, F>,
+        charge: u64,
+        evicted: &mut Evicted<'_, F, V>,
+    ) -> Result<Asked<V>, Refusal> {
+        self.makings.reserve()?;
+        let asked = self.core.begin(key, charge, evicted)?;
+        match asked {
+            Asked::Make(pin) => self.makings.add(pin),
+            Asked::Wait(pin) => {
+                if let Some(making) = self.makings.get(pin) {
+                    making.join();
+                }
+            }
+            Asked::Hit(..) => {}
+        }
+        Ok(asked)
+    }
+
+    /// Stores the value that the caller has made.
+    fn ready(&mut self, pin: Pin, value: Box<V>) -> (NonNull<V>, Sleepers) {
+        let value = self.core.ready(pin, value);
+        let Some(mut making) = self.makings.remove(pin) else {
+            return (value, Sleepers::default());
+        };
+        // The caller has a pin too, so nothing is evicted.
+        for _ in 0..making.left() {
+            self.core.unpin(pin);
+        }
+        (value, making.sleepers())
+    }
+
+    /// Tells that the caller could not make the value, and gives its pin back.
+    fn fail(&mut self, pin: Pin) -> Sleepers {
+        let mut has_others = self.core.fail(pin);
+        if let Some(making) = self.makings.get(pin) {
+            if making.is_awaited() {
+                return making.sleepers();
+            }
+        }
+        // All others have left, so each of them fails in turn.
+        while has_others && matches!(self.core.poll(pin), Ok(Asked::Make(_))) {
+            has_others = self.core.fail(pin);
+        }
+        self.makings.remove(pin);
+        Sleepers::default()
+    }
 }
 
 impl<K: Key + ?Sized, V> LruCache<K, V> {
@@ -127,14 +184,67 @@ impl<K: Key + ?Sized, V> LruCache<K, V> {
         Ok(LruCache {
             shared: Mutex::new(Shared {
                 core: Core::new(capacity, seed)?,
-                waiting: 0,
                 makings: Makings::default(),
+                loads: Loads::default(),
             }),
             seed,
             ended: Condvar::new(),
+            listener: None,
+            times_loads: false,
             keys: PhantomData,
             values: PhantomData,
         })
+    }
+
+    /// Has `listener` told of each value that leaves the cache, just before the value is dropped,
+    /// with its key as it is [written](Key::written), its charge and the [`Reason`].
+    ///
+    /// No lock is held meanwhile, so the listener may call the cache. If it panics, it is told of
+    /// all other values that leave with the same call, which are dropped too, and then the panic
+    /// reaches the caller. It is not told of values that are dropped with the cache, nor of those
+    /// that the cache has already. With a listener, the cache keeps two more references to a copy
+    /// of each key; without one, it costs nothing.
+    ///
+    /// # Examples
+    ///
+    /// ```
+    /// use concurrent_lru_proved::unsharded::LruCache;
+    /// use std::sync::mpsc;
+    ///
+    /// # fn main() -> Result<(), concurrent_lru_proved::Refusal> {
+    /// let (sender, left) = mpsc::channel();
+    /// let cache = LruCache::<String, u64>::new(1)?.with_listener(move |leaving| {
+    ///     let key = String::from_utf8_lossy(leaving.key).into_owned();
+    ///     let _ = sender.send((key, *leaving.value, leaving.reason));
+    /// });
+    /// cache.insert("seven", 1, 7)?;
+    /// cache.insert("eight", 1, 8)?;
+    /// let (key, value, reason) = left.recv().unwrap();
+    /// assert_eq!((&*key, value), ("seven", 7));
+    /// assert_eq!(reason, concurrent_lru_proved::Reason::Evicted);
+    /// # Ok(())
+    /// # }
+    /// ```
+    #[must_use]
+    pub fn with_listener(
+        self,
+        listener: impl Fn(Leaving<'_, V, Written<'_, K::Form>>) + Send + Sync + 'static,
+    ) -> Self {
+        self.with_shared_listener(Arc::new(listener))
+    }
+
+    pub(crate) fn with_shared_listener(mut self, listener: Listener<K::Form, V>) -> Self {
+        self.lock().core.keep_keys();
+        self.listener = Some(AssertUnwindSafe(listener));
+        self
+    }
+
+    /// Also measures how long it takes to make values, as [`Stats::load_time`](crate::Stats) tells.
+    /// A miss then takes about 0.1 microseconds longer.
+    #[must_use]
+    pub fn with_load_times(mut self) -> Self {
+        self.times_loads = true;
+        self
     }
 
     /// Returns a handle of the key's value, or `None` if there is no value or it is still being
@@ -144,6 +254,7 @@ impl<K: Key + ?Sized, V> LruCache<K, V> {
     ///
     /// [`Refusal::Overflow`] if the value has `u32::MAX` handles. [`Refusal::Memory`] if the key is
     /// longer than any before and there is no memory for a copy.
+    #[inline]
     pub fn get<Q>(&self, key: &Q) -> Result<Option<CacheHandle<'_, K, V>>, Refusal>
     where
         K: Borrow<Q>,
@@ -156,8 +267,11 @@ impl<K: Key + ?Sized, V> LruCache<K, V> {
     }
 
     /// Calls `reader` with the key's value, and returns its result, or `None` if there is no value
-    /// or it is still being made. The value is pinned while `reader` runs, and no lock is held.
-    /// Does not wait.
+    /// or it is still being made. Does not wait.
+    ///
+    /// The lock is held meanwhile, once for the whole call, so `reader` must not call the cache or
+    /// drop a handle of it, which would wait for the lock for ever, and other calls wait. If it
+    /// needs more time than to look at the value, call [`get`](Self::get).
     ///
     /// # Errors
     ///
@@ -181,7 +295,9 @@ impl<K: Key + ?Sized, V> LruCache<K, V> {
         K: Borrow<Q>,
         Q: Key<Form = K::Form> + ?Sized,
     {
-        Ok(self.get(key)?.map(|handle| reader(&handle)))
+        let written = key.written();
+        let hashed = self.hashed(&written);
+        self.lock().core.read(hashed, reader)
     }
 
     /// Returns a handle of the key's value. If there is none, `init` makes it.
@@ -202,6 +318,7 @@ impl<K: Key + ?Sized, V> LruCache<K, V> {
     /// entry. [`Refusal::Full`] if the limit is strict, the key has no value and none is being made
     /// for it, and there is no room for one. In these cases `init` does not run and nothing is
     /// evicted.
+    #[inline]
     pub fn get_or_init<Q>(
         &self,
         key: &Q,
@@ -229,6 +346,7 @@ impl<K: Key + ?Sized, V> LruCache<K, V> {
     ///
     /// [`GetError::Init`] with the error of `init`, and [`GetError::Refused`] in the cases of
     /// [`get_or_init`](Self::get_or_init).
+    #[inline]
     pub fn get_or_try_init<Q, E>(
         &self,
         key: &Q,
@@ -239,16 +357,173 @@ impl<K: Key + ?Sized, V> LruCache<K, V> {
         K: Borrow<Q>,
         Q: Key<Form = K::Form> + ?Sized,
     {
-        let mut evicted = Evicted::new();
-        let asked = self.begin(self.hashed(&key.written()), charge, &mut evicted)?;
-        // If the drop of a value panics, `asked` is dropped too, which gives its pin back.
-        drop(evicted);
-        match asked {
-            Asked::Found(handle) => Ok(handle),
-            Asked::Making(making) => {
-                let value = init(key).map_err(GetError::Init)?;
-                Ok(making.end(Box::new(value)))
+        match self.begin(key, charge)? {
+            Begun::Hit(handle) => Ok(handle),
+            Begun::Make(maker) => Ok(maker.ready(init(key).map_err(GetError::Init)?)),
+        }
+    }
+
+    /// Returns a handle of the key's value, or a guard with which the caller makes it.
+    ///
+    /// This is [`get_or_init`](Self::get_or_init) for a caller that does not make the value by a
+    /// function. Other callers that ask for the key wait until it calls [`Maker::ready`], or drops
+    /// the guard: one of them makes the value then.
+    ///
+    /// # Errors
+    ///
+    /// As [`get_or_init`](Self::get_or_init).
+    ///
+    /// # Examples
+    ///
+    /// ```
+    /// use concurrent_lru_proved::Begun;
+    /// use concurrent_lru_proved::unsharded::LruCache;
+    ///
+    /// # fn main() -> Result<(), concurrent_lru_proved::Refusal> {
+    /// let cache = LruCache::<u64, String>::new(10)?;
+    /// let handle = match cache.begin(&7, 1)? {
+    ///     Begun::Hit(handle) => handle,
+    ///     Begun::Make(maker) => maker.ready("seven".to_string()),
+    /// };
+    /// assert_eq!(*handle, "seven");
+    /// # Ok(())
+    /// # }
+    /// ```
+    #[inline]
+    pub fn begin<Q>(&self, key: &Q, charge: u64) -> Result<Begun<'_, K, V>, Refusal>
+    where
+        K: Borrow<Q>,
+        Q: Key<Form = K::Form> + ?Sized,
+    {
+        match self.ask(key, charge)? {
+            Answer::Begun(begun) => Ok(begun),
+            Answer::Wait(shared, waiter) => waiter.sleep(shared),
+        }
+    }
+
+    /// Returns what [`begin`](Self::begin) returns, or `None` if another caller makes the value.
+    /// Does not wait.
+    ///
+    /// Such a call is counted among the `waits` of [`stats`](Self::stats), and as a handle of the
+    /// value until it has been made.
+    ///
+    /// # Errors
+    ///
+    /// As [`get_or_init`](Self::get_or_init).
+    ///
+    /// # Examples
+    ///
+    /// ```
+    /// use concurrent_lru_proved::Begun;
+    /// use concurrent_lru_proved::unsharded::LruCache;
+    ///
+    /// # fn main() -> Result<(), concurrent_lru_proved::Refusal> {
+    /// let cache = LruCache::<u64, String>::new(10)?;
+    /// let making = cache.try_begin(&7, 1)?;
+    /// assert!(matches!(making, Some(Begun::Make(_))));
+    /// assert!(cache.try_begin(&7, 1)?.is_none());
+    /// # Ok(())
+    /// # }
+    /// ```
+    pub fn try_begin<Q>(&self, key: &Q, charge: u64) -> Result<Option<Begun<'_, K, V>>, Refusal>
+    where
+        K: Borrow<Q>,
+        Q: Key<Form = K::Form> + ?Sized,
+    {
+        match self.ask(key, charge)? {
+            Answer::Begun(begun) => Ok(Some(begun)),
+            // The lock is released first, which the drop of the other takes.
+            Answer::Wait(shared, _waiter) => {
+                drop(shared);
+                Ok(None)
             }
+        }
+    }
+
+    /// Returns what [`begin`](Self::begin) returns, without blocking the thread meanwhile.
+    ///
+    /// It needs no particular runtime. Tasks and threads may wait for the same value. If the future
+    /// is dropped while it waits, the caller waits no more.
+    ///
+    /// # Errors
+    ///
+    /// As [`get_or_init`](Self::get_or_init), and [`Refusal::Memory`] if there is no memory for the
+    /// list of the tasks that wait.
+    pub async fn begin_async<Q>(&self, key: &Q, charge: u64) -> Result<Begun<'_, K, V>, Refusal>
+    where
+        K: Borrow<Q>,
+        Q: Key<Form = K::Form> + ?Sized,
+    {
+        let mut waiter = match self.ask(key, charge)? {
+            Answer::Begun(begun) => return Ok(begun),
+            Answer::Wait(_, waiter) => waiter,
+        };
+        future::poll_fn(|context| waiter.poll(context)).await
+    }
+
+    /// Returns what [`get_or_init`](Self::get_or_init) returns, without blocking the thread
+    /// meanwhile. If the key has no value, `init` makes it, and is else dropped without a poll.
+    ///
+    /// If the future that this returns is dropped while `init` runs, or if `init` panics, another
+    /// caller that waits makes the value, with its own `init`. It is [`Send`] if `init`, keys and
+    /// values may be sent and shared.
+    ///
+    /// # Errors
+    ///
+    /// As [`begin_async`](Self::begin_async).
+    ///
+    /// # Examples
+    ///
+    /// ```
+    /// use concurrent_lru_proved::Refusal;
+    /// use concurrent_lru_proved::unsharded::LruCache;
+    ///
+    /// async fn length(cache: &LruCache<String, String>, url: &str) -> Result<usize, Refusal> {
+    ///     let page = cache.get_or_init_async(url, 1, fetch(url)).await?;
+    ///     Ok(page.len())
+    /// }
+    ///
+    /// async fn fetch(url: &str) -> String {
+    ///     // ...
+    /// #   url.to_string()
+    /// }
+    /// ```
+    pub async fn get_or_init_async<Q>(
+        &self,
+        key: &Q,
+        charge: u64,
+        init: impl Future<Output = V>,
+    ) -> Result<CacheHandle<'_, K, V>, Refusal>
+    where
+        K: Borrow<Q>,
+        Q: Key<Form = K::Form> + ?Sized,
+    {
+        match self.begin_async(key, charge).await? {
+            Begun::Hit(handle) => Ok(handle),
+            Begun::Make(maker) => Ok(maker.ready(init.await)),
+        }
+    }
+
+    /// Returns what [`get_or_try_init`](Self::get_or_try_init) returns, without blocking the thread
+    /// meanwhile, as [`get_or_init_async`](Self::get_or_init_async) does.
+    ///
+    /// # Errors
+    ///
+    /// [`GetError::Init`] with the error of `init`, and [`GetError::Refused`] in the cases of
+    /// [`begin_async`](Self::begin_async).
+    pub async fn get_or_try_init_async<Q, E>(
+        &self,
+        key: &Q,
+        charge: u64,
+        init: impl Future<Output = Result<V, E>>,
+    ) -> Result<CacheHandle<'_, K, V>, GetError<E>>
+    where
+        K: Borrow<Q>,
+        Q: Key<Form = K::Form> + ?Sized,
+    {
+        match self.begin_async(key, charge).await? {
+            Begun::Hit(handle) => Ok(handle),
+            Begun::Make(maker) => Ok(maker.ready(init.await.map_err(GetError::Init)?)),
         }
     }
 
@@ -323,6 +598,46 @@ impl<K: Key + ?Sized, V> LruCache<K, V> {
         Ok(OwnedHandle::of(self, handle))
     }
 
+    /// Returns what [`get_or_init_async`](Self::get_or_init_async) returns, with a handle that
+    /// borrows nothing and keeps the cache alive.
+    ///
+    /// # Errors
+    ///
+    /// As [`begin_async`](Self::begin_async).
+    pub async fn get_or_init_owned_async<Q>(
+        self: &Arc<Self>,
+        key: &Q,
+        charge: u64,
+        init: impl Future<Output = V>,
+    ) -> Result<OwnedHandle<K, V>, Refusal>
+    where
+        K: Borrow<Q>,
+        Q: Key<Form = K::Form> + ?Sized,
+    {
+        let handle = self.get_or_init_async(key, charge, init).await?;
+        Ok(OwnedHandle::of(self, handle))
+    }
+
+    /// Returns what [`get_or_try_init_async`](Self::get_or_try_init_async) returns, with a handle
+    /// that borrows nothing and keeps the cache alive.
+    ///
+    /// # Errors
+    ///
+    /// As [`get_or_try_init_async`](Self::get_or_try_init_async).
+    pub async fn get_or_try_init_owned_async<Q, E>(
+        self: &Arc<Self>,
+        key: &Q,
+        charge: u64,
+        init: impl Future<Output = Result<V, E>>,
+    ) -> Result<OwnedHandle<K, V>, GetError<E>>
+    where
+        K: Borrow<Q>,
+        Q: Key<Form = K::Form> + ?Sized,
+    {
+        let handle = self.get_or_try_init_async(key, charge, init).await?;
+        Ok(OwnedHandle::of(self, handle))
+    }
+
     /// Makes `value` the key's value, whatever the key had, and returns a handle of it. Does not
     /// wait.
     ///
@@ -364,7 +679,7 @@ impl<K: Key + ?Sized, V> LruCache<K, V> {
         let written = key.written();
         let hashed = self.hashed(&written);
         let value = Box::new(value);
-        let mut evicted = Evicted::new();
+        let mut evicted = self.evicted();
         // The lock is released at the end of this statement, before any value is dropped.
         let inserted = self.lock().core.insert(hashed, charge, value, &mut evicted);
         match inserted {
@@ -392,8 +707,10 @@ impl<K: Key + ?Sized, V> LruCache<K, V> {
     {
         let written = key.written();
         let hashed = self.hashed(&written);
-        let mut evicted = Evicted::new();
-        self.lock().core.invalidate(hashed, &mut evicted)
+        let mut evicted = self.evicted();
+        self.lock()
+            .core
+            .invalidate(hashed, Reason::Invalidated, &mut evicted)
     }
 
     /// Evicts the key's value if it is idle. If it is pinned, nothing happens, now or later.
@@ -408,14 +725,14 @@ impl<K: Key + ?Sized, V> LruCache<K, V> {
     {
         let written = key.written();
         let hashed = self.hashed(&written);
-        let mut evicted = Evicted::new();
+        let mut evicted = self.evicted();
         self.lock().core.advice_evict(hashed, &mut evicted)
     }
 
     /// Evicts every idle value.
     pub fn prune(&self) {
-        let mut evicted = Evicted::new();
-        self.lock().core.prune(&mut evicted);
+        let mut evicted = self.evicted();
+        self.lock().core.prune(Reason::Evicted, &mut evicted);
     }
 
     /// Takes the value of every key away, as [`invalidate`](Self::invalidate) does for one key, so
@@ -445,7 +762,7 @@ impl<K: Key + ?Sized, V> LruCache<K, V> {
     /// # }
     /// ```
     pub fn clear(&self) -> Result<(), Refusal> {
-        let mut evicted = Evicted::new();
+        let mut evicted = self.evicted();
         let mut shared = self.lock();
         let Shared { core, makings, .. } = &mut *shared;
         core.clear(makings.pins(), self.seed, &mut evicted)
@@ -490,7 +807,7 @@ impl<K: Key + ?Sized, V> LruCache<K, V> {
         &self,
         keep: impl FnMut(Written<'_, K::Form>, &V, u64) -> bool,
     ) -> Result<(), Refusal> {
-        let mut evicted = Evicted::new();
+        let mut evicted = self.evicted();
         // The lock is released at the end of this expression, before any value is dropped.
         self.lock().core.retain(self.seed, &mut evicted, keep)
     }
@@ -579,17 +896,29 @@ impl<K: Key + ?Sized, V> LruCache<K, V> {
     }
 
     /// Returns how often calls hit and missed since the cache was created, what was inserted and
-    /// evicted, and what the cache holds, all at one time. [`get`](Self::get),
-    /// [`read`](Self::read), [`get_or_init`](Self::get_or_init) and
-    /// [`get_or_try_init`](Self::get_or_try_init) are counted as hits, misses and waits;
-    /// [`contains`](Self::contains), [`insert`](Self::insert) and clones of handles are not.
+    /// evicted, how long the making of values took, and what the cache holds, all at one time.
+    /// [`get`](Self::get), [`read`](Self::read), [`begin`](Self::begin),
+    /// [`get_or_init`](Self::get_or_init) and the calls named after these are counted as hits,
+    /// misses and waits; [`contains`](Self::contains), [`insert`](Self::insert) and clones of
+    /// handles are not.
     pub fn stats(&self) -> Stats {
-        self.lock().core.stats().into()
+        let mut shared = self.lock();
+        Stats::new(shared.core.stats(), shared.loads)
+    }
+
+    /// Makes room for `entries` values in all, so that no call that adds one has to make room for
+    /// more under the lock, until there are more.
+    ///
+    /// # Errors
+    ///
+    /// [`Refusal::Memory`] if there is no memory for them. Nothing has changed then.
+    pub fn reserve(&self, entries: usize) -> Result<(), Refusal> {
+        self.lock().core.reserve(entries)
     }
 
     /// Sets the capacity. Idle values that exceed it are evicted at once.
     pub fn set_capacity(&self, capacity: u64) {
-        let mut evicted = Evicted::new();
+        let mut evicted = self.evicted();
         self.lock().core.set_capacity(capacity, &mut evicted);
     }
 
@@ -629,36 +958,36 @@ impl<K: Key + ?Sized, V> LruCache<K, V> {
 
     /// Hashes a key. A call does so before it takes the lock.
     fn hashed<'a>(&self, written: &'a Written<'_, K::Form>) -> Hashed<'a, K::Form> {
-        K::Form::hashed(written, self.seed)
+        form::hashed::<K::Form>(written, self.seed)
     }
 
-    /// Finds the key's value, waiting for it while another caller makes it, or begins to make it.
-    fn begin(
-        &self,
-        hashed: Hashed<'_, K::Form>,
-        charge: u64,
-        evicted: &mut Evicted<V>,
-    ) -> Result<Asked<'_, K, V>, Refusal> {
+    /// Finds the key's value, or begins to make it, or to wait for it.
+    #[inline]
+    fn ask<Q>(&self, key: &Q, charge: u64) -> Result<Answer<'_, K, V>, Refusal>
+    where
+        K: Borrow<Q>,
+        Q: Key<Form = K::Form> + ?Sized,
+    {
+        let written = key.written();
+        let hashed = self.hashed(&written);
+        let mut evicted = self.evicted();
         let mut shared = self.lock();
-        let more = 1 + shared.waiting;
-        shared.makings.reserve(more)?;
-        let mut begun = shared.core.begin(hashed, charge, evicted)?;
-        loop {
-            match begun {
-                Begun::Hit(pin, value) => return Ok(Asked::Found(self.handle(pin, value))),
-                Begun::Make(pin) => {
-                    let place = shared.makings.add(pin);
-                    let cache = self;
-                    return Ok(Asked::Making(Making { cache, pin, place }));
-                }
-                Begun::Wait(pin) => {
-                    shared.waiting += 1;
-                    shared = unpoisoned(self.ended.wait(shared));
-                    shared.waiting -= 1;
-                    begun = shared.core.poll(pin)?;
-                }
-            }
-        }
+        let begun = match shared.begin(hashed, charge, &mut evicted)? {
+            Asked::Hit(pin, value) => Begun::Hit(self.handle(pin, value)),
+            Asked::Make(pin) => Begun::Make(Maker::new(self, pin)),
+            // A call that waits has evicted nothing.
+            Asked::Wait(pin) => return Ok(Answer::Wait(shared, Waiter::new(self, pin))),
+        };
+        drop(shared);
+        // If the drop of a value panics, `begun` is dropped too. It would be leaked if it were the
+        // return value already.
+        drop(evicted);
+        Ok(Answer::Begun(begun))
+    }
+
+    /// An empty list, whose values the listener is told of.
+    fn evicted(&self) -> Evicted<'_, K::Form, V> {
+        Evicted::new(self.listener.as_deref())
     }
 
     fn handle(&self, pin: Pin, value: NonNull<V>) -> CacheHandle<'_, K, V> {
@@ -677,14 +1006,26 @@ impl<K: Key + ?Sized, V> LruCache<K, V> {
 
     /// Gives back the pin of a handle, which is not used again.
     pub(crate) fn release(&self, pin: Pin) {
-        let mut evicted = Evicted::new();
-        self.lock().core.release(pin, &mut evicted);
+        let mut shared = self.lock();
+        // Most releases evict nothing.
+        if let Some(first) = shared.core.release(pin) {
+            self.drop_evicted(shared, first);
+        }
+    }
+
+    #[cold]
+    fn drop_evicted(&self, mut shared: MutexGuard<'_, Shared<K::Form, V>>, first: Gone) {
+        let mut evicted = self.evicted();
+        let core = &mut shared.core;
+        core.take_all_evicted(Some(first), &mut evicted, Reason::Evicted);
+        drop(shared);
+        drop(evicted);
     }
 
     /// Gives back the pin of a handle, which is not used again, and evicts the value if the handle
     /// was its last.
     pub(crate) fn release_and_evict(&self, pin: Pin) {
-        let mut evicted = Evicted::new();
+        let mut evicted = self.evicted();
         self.lock().core.release_and_evict(pin, &mut evicted);
     }
 
@@ -692,23 +1033,27 @@ impl<K: Key + ?Sized, V> LruCache<K, V> {
         unpoisoned(self.shared.lock())
     }
 
-    /// Releases the lock, and wakes the callers that wait if one of them waits for the value that
-    /// was made, or could not be made.
+    /// Releases the lock, and wakes those that wait for the value that was made, or could not be
+    /// made.
     ///
-    /// All that wait, for whatever value, wait at one condition: a slow value whose key many ask
-    /// for would else make them wake for each value that is made meanwhile. Who waits took its pin
-    /// with the lock held, and lets go of the lock only by waiting, so no notification is missed.
-    fn wake(&self, shared: MutexGuard<'_, Shared<K::Form, V>>, is_awaited: bool) {
+    /// All threads that wait, for whatever value, wait at one condition: a slow value whose key
+    /// many ask for would else make them wake for each value that is made meanwhile. Who waits is
+    /// counted with the lock held, and lets go of the lock only by waiting, so no notification is
+    /// missed. Wakers run code of their tasks, which may call the cache.
+    fn wake(&self, shared: MutexGuard<'_, Shared<K::Form, V>>, sleepers: Sleepers) {
         drop(shared);
-        if is_awaited {
+        if sleepers.has_threads {
             self.ended.notify_all();
+        }
+        for (_, task) in sleepers.tasks {
+            task.wake();
         }
     }
 }
 
 /// Code of the user that runs under the lock, as in `for_each` and `retain`, only looks. So a
 /// poisoned lock guards a sound cache.
-fn unpoisoned<T>(locked: Result<T, PoisonError<T>>) -> T {
+pub(crate) fn unpoisoned<T>(locked: Result<T, PoisonError<T>>) -> T {
     locked.unwrap_or_else(PoisonError::into_inner)
 }
 
@@ -721,41 +1066,172 @@ impl<K: Key + ?Sized, V> fmt::Debug for LruCache<K, V> {
     }
 }
 
+/// What a caller that asks for a value gets.
+pub type Begun<'a, K, V> = makings::Begun<CacheHandle<'a, K, V>, Maker<'a, K, V>>;
+
 /// What a caller that asked for a key has got.
-enum Asked<'a, K: Key + ?Sized, V> {
-    Found(CacheHandle<'a, K, V>),
-    Making(Making<'a, K, V>),
+enum Answer<'a, K: Key + ?Sized, V> {
+    Begun(Begun<'a, K, V>),
+    /// Another caller makes the value. The lock is still held.
+    Wait(MutexGuard<'a, Shared<K::Form, V>>, Waiter<'a, K, V>),
 }
 
-/// The duty to make a value. If it is dropped before `end`, making the value has failed.
-struct Making<'a, K: Key + ?Sized, V> {
+/// The duty to make a value, while other callers that ask for its key wait.
+///
+/// If it is dropped, the making has failed, as if `init` of
+/// [`get_or_try_init`](LruCache::get_or_try_init) had: the cache keeps no entry, or one of those
+/// that wait makes the value. If it is forgotten, they wait for ever.
+#[must_use = "the making fails if this is dropped"]
+pub struct Maker<'a, K: Key + ?Sized, V> {
     cache: &'a LruCache<K, V>,
     pin: Pin,
-    /// Where the pin stands among those of the cache.
-    place: usize,
+    /// Is `None` if the cache does not measure how long it takes to make values.
+    begun: Option<Instant>,
 }
 
-impl<'a, K: Key + ?Sized, V> Making<'a, K, V> {
-    /// Stores the value.
-    fn end(self, value: Box<V>) -> CacheHandle<'a, K, V> {
-        let mut shared = self.cache.lock();
-        shared.makings.remove(self.place);
-        let value = shared.core.ready(self.pin, value);
-        let handle = self.cache.handle(self.pin, value);
-        // Who waits for the value has a pin too.
-        let is_awaited = shared.waiting > 0 && shared.core.pins(self.pin) > 1;
-        self.cache.wake(shared, is_awaited);
-        mem::forget(self);
+impl<'a, K: Key + ?Sized, V> Maker<'a, K, V> {
+    fn new(cache: &'a LruCache<K, V>, pin: Pin) -> Self {
+        Maker {
+            cache,
+            pin,
+            begun: cache.times_loads.then(Instant::now),
+        }
+    }
+
+    fn time(&self) -> Duration {
+        self.begun.map_or(Duration::ZERO, |begun| begun.elapsed())
+    }
+
+    /// Makes `value` the value, which those that wait get too, and returns a handle of it.
+    ///
+    /// This is never refused, as the room for the value was made before.
+    pub fn ready(self, value: V) -> CacheHandle<'a, K, V> {
+        let this = ManuallyDrop::new(self);
+        let value = Box::new(value);
+        let time = this.time();
+        let mut shared = this.cache.lock();
+        shared.loads.made += 1;
+        shared.loads.time += time;
+        let (value, sleepers) = shared.ready(this.pin, value);
+        let handle = this.cache.handle(this.pin, value);
+        this.cache.wake(shared, sleepers);
         handle
     }
 }
 
-impl<K: Key + ?Sized, V> Drop for Making<'_, K, V> {
+impl<K: Key + ?Sized, V> fmt::Debug for Maker<'_, K, V> {
+    fn fmt(&self, f: &mut fmt::Formatter<'_>) -> fmt::Result {
+        f.debug_struct("Maker").finish_non_exhaustive()
+    }
+}
+
+impl<K: Key + ?Sized, V> Drop for Maker<'_, K, V> {
     fn drop(&mut self) {
+        let time = self.time();
         let mut shared = self.cache.lock();
-        shared.makings.remove(self.place);
-        let is_awaited = shared.core.fail(self.pin);
-        self.cache.wake(shared, is_awaited);
+        shared.loads.failed += 1;
+        shared.loads.time += time;
+        let sleepers = shared.fail(self.pin);
+        self.cache.wake(shared, sleepers);
+    }
+}
+
+/// A caller that waits for a value. If it is dropped, it waits no more.
+struct Waiter<'a, K: Key + ?Sized, V> {
+    cache: &'a LruCache<K, V>,
+    pin: Pin,
+    /// By which the making finds the waker of a task.
+    ticket: Option<u64>,
+    has_ended: bool,
+}
+
+impl<'a, K: Key + ?Sized, V> Waiter<'a, K, V> {
+    fn new(cache: &'a LruCache<K, V>, pin: Pin) -> Self {
+        Waiter {
+            cache,
+            pin,
+            ticket: None,
+            has_ended: false,
+        }
+    }
+
+    /// Asks again. Returns `None` if the value is still being made.
+    fn ask(&mut self, shared: &mut Shared<K::Form, V>) -> Result<Option<Begun<'a, K, V>>, Refusal> {
+        let begun = match shared.core.poll(self.pin)? {
+            Asked::Hit(pin, value) => Begun::Hit(self.cache.handle(pin, value)),
+            Asked::Make(pin) => {
+                if let Some(making) = shared.makings.get(pin) {
+                    making.take_over();
+                }
+                Begun::Make(Maker::new(self.cache, pin))
+            }
+            Asked::Wait(_) => return Ok(None),
+        };
+        self.has_ended = true;
+        Ok(Some(begun))
+    }
+
+    /// Blocks the thread until the value was made or could not be made.
+    fn sleep(
+        mut self,
+        mut shared: MutexGuard<'_, Shared<K::Form, V>>,
+    ) -> Result<Begun<'a, K, V>, Refusal> {
+        loop {
+            if let Some(making) = shared.makings.get(self.pin) {
+                making.sleep();
+            }
+            shared = unpoisoned(self.cache.ended.wait(shared));
+            if let Some(making) = shared.makings.get(self.pin) {
+                making.wake_up();
+            }
+            if let Some(begun) = self.ask(&mut shared)? {
+                return Ok(begun);
+            }
+        }
+    }
+
+    /// Has the task woken when the value was made or could not be made, unless it was already.
+    fn poll(&mut self, context: &mut Context<'_>) -> Poll<Result<Begun<'a, K, V>, Refusal>> {
+        // A waker runs code of its task when it is cloned or dropped, which may call the cache.
+        let mut waker = Some(context.waker().clone());
+        let cache = self.cache;
+        let mut shared = cache.lock();
+        if let Some(begun) = self.ask(&mut shared)? {
+            return Poll::Ready(Ok(begun));
+        }
+        if let Some(making) = shared.makings.get(self.pin) {
+            making.sleep_as_task(&mut self.ticket, &mut waker)?;
+        }
+        Poll::Pending
+    }
+}
+
+impl<K: Key + ?Sized, V> Drop for Waiter<'_, K, V> {
+    fn drop(&mut self) {
+        if self.has_ended {
+            return;
+        }
+        let mut sleepers = Sleepers::default();
+        let _waker;
+        let mut shared = self.cache.lock();
+        match shared.core.poll(self.pin) {
+            Ok(Asked::Wait(pin)) => {
+                let making = shared.makings.get(pin);
+                _waker = making.and_then(|making| making.leave(self.ticket));
+            }
+            Ok(Asked::Make(pin)) => {
+                if let Some(making) = shared.makings.get(pin) {
+                    making.take_over();
+                }
+                sleepers = shared.fail(pin);
+            }
+            Ok(Asked::Hit(pin, _)) => {
+                drop(shared);
+                return self.cache.release(pin);
+            }
+            Err(_) => {}
+        }
+        self.cache.wake(shared, sleepers);
     }
 }
 

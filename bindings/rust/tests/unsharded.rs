@@ -1,9 +1,10 @@
 //! Tests the cache behind one lock.
 
+use std::borrow::Cow;
 use std::fs::File;
 use std::io;
 use std::net::{IpAddr, Ipv4Addr, Ipv6Addr, SocketAddr, SocketAddrV4, SocketAddrV6};
-use std::num::{NonZeroI8, NonZeroU64};
+use std::num::{NonZeroI8, NonZeroI128, NonZeroU64, NonZeroU128};
 use std::os::unix::fs::FileExt;
 use std::panic::{self, AssertUnwindSafe};
 use std::path::{Path, PathBuf};
@@ -13,7 +14,7 @@ use std::sync::{Arc, Barrier, Mutex};
 use std::thread;
 use std::time::{Duration, Instant};
 
-use concurrent_lru_proved::key::Key;
+use concurrent_lru_proved::key::{Key, Word, Words};
 use concurrent_lru_proved::unsharded::LruCache;
 use concurrent_lru_proved::{GetError, Refusal};
 
@@ -88,17 +89,31 @@ fn contains_and_len_look_only() -> Result<(), Refusal> {
 }
 
 #[test]
-fn read_passes_a_pinned_value() -> Result<(), Refusal> {
-    let cache = LruCache::<u32, u32>::new(2)?;
+fn read_uses_a_value_under_the_lock() -> Result<(), Refusal> {
+    let cache = LruCache::<u32, u32>::new(4)?;
     assert_eq!(cache.read(&1, |_| 7)?, None);
     cache.insert(&1, 2, 5)?;
-    let pinned = cache.read(&1, |number| {
-        // No lock is held, and the value stays.
-        cache.prune();
-        cache.pinned_charge() + u64::from(*number)
-    })?;
-    assert_eq!(pinned, Some(7));
-    assert_eq!(cache.pinned_charge(), 0);
+    cache.insert(&2, 2, 6)?;
+    thread::scope(|scope| {
+        let mut pruning = None;
+        let read = cache.read(&1, |number| {
+            // Another thread has to wait for the lock, and the value stays.
+            let thread = pruning.insert(scope.spawn(|| cache.prune()));
+            thread::sleep(Duration::from_millis(20));
+            assert!(!thread.is_finished());
+            *number
+        });
+        assert_eq!(read, Ok(Some(5)));
+    });
+    assert!(cache.is_empty());
+    // A value that was read becomes the newest.
+    cache.insert(&1, 2, 5)?;
+    cache.insert(&2, 2, 6)?;
+    cache.read(&1, |_| ())?;
+    cache.insert(&3, 2, 7)?;
+    assert!(cache.contains(&1)? && !cache.contains(&2)?);
+    cache.prune();
+    cache.insert(&1, 2, 5)?;
     let panicked = panic::catch_unwind(AssertUnwindSafe(|| cache.read(&1, |_| panic!("unread"))));
     assert!(panicked.is_err());
     assert_eq!((cache.pinned_charge(), cache.total_charge()), (0, 2));
@@ -802,6 +817,10 @@ fn keys_of_every_form() -> Result<(), Refusal> {
     serves::<Box<str>, str>("a", "b");
     serves::<Box<Path>, Path>("a".as_ref(), "b".as_ref());
     serves::<Box<u64>, u64>(&1, &2);
+    serves::<Cow<'_, str>, str>("a", "b");
+    serves::<Cow<'_, [u8]>, [u8]>(&[0], &[1]);
+    serves::<NonZeroU128, _>(&NonZeroU128::MIN, &NonZeroU128::MAX);
+    serves::<NonZeroI128, _>(&NonZeroI128::MIN, &NonZeroI128::MAX);
     Ok(())
 }
 
@@ -856,7 +875,61 @@ fn keys_of_several_parts() -> Result<(), Refusal> {
         (1, 2, "", 1 << 64),
     ])?;
     all_differ(&[(1_u8, [0_u8; 4]), (0, [1, 0, 0, 0])])?;
-    all_differ(&[((1_u8, "a"), "b", 2_u8), ((1, "ab"), "", 2)])
+    all_differ(&[((1_u8, "a"), "b", 2_u8), ((1, "ab"), "", 2)])?;
+    // Pairs of any two keys.
+    all_differ(&[(1_u64, (2_u64, 3_u64)), (1, (3, 2)), (2, (1, 3))])?;
+    all_differ(&[((1_u64, 2_u64), "a".to_string()), ((2, 1), "a".into())])?;
+    all_differ(&[(("a", 1_u64), 2_u64), (("a", 2), 1), (("", 1), 2)])?;
+    all_differ(&[(1_u64, Box::new(2_u64)), (2, Box::new(1))])?;
+    all_differ(&[(1_u128, 2_u128), (2, 1), (1, 2 << 64), (1 << 64, 2)])?;
+    all_differ(&[(1_u8, 2_u128), (2, 1), (1, 2 << 64)])?;
+    all_differ(&[(2_u128, 1_u8), (1, 2), (2 << 64, 1)])?;
+    all_differ(&[(None, 1_u8), (Some(1_u8), 1), (Some(1), 2)])?;
+    all_differ(&[(Block(1, 2), 3_u8), (Block(2, 1), 3), (Block(1, 2), 4)])?;
+    all_differ(&[(3_u8, Block(1, 2)), (3, Block(2, 1)), (4, Block(1, 2))])?;
+    all_differ(&[(User(1), 2_u8), (User(2), 1)])?;
+    all_differ(&[(Cow::Borrowed("a"), 1_u8), (Cow::Owned("b".into()), 1)])?;
+    all_differ(&[
+        Duration::ZERO,
+        Duration::from_nanos(1),
+        Duration::from_secs(1),
+    ])?;
+    all_differ(&[[1_u32, 2, 3], [3, 2, 1], [1, 2, 4]])?;
+    all_differ(&[["a", "b"], ["ab", ""], ["", "ab"]])?;
+    all_differ(&[[-1_i64; 2], [1; 2], [-1, 1]])?;
+    all_differ(&[[(1_u8, "a"), (2, "b")], [(1, "b"), (2, "a")]])
+}
+
+/// A key of two words, and one that is a word.
+struct Block(u64, u64);
+struct User(u64);
+
+impl Key for Block {
+    type Form = Words;
+
+    fn written(&self) -> [u64; 2] {
+        [self.0, self.1]
+    }
+}
+
+impl Key for User {
+    type Form = Word;
+
+    fn written(&self) -> [u64; 2] {
+        self.0.written()
+    }
+}
+
+/// Pairs of words take no memory, and other pairs are written as triples are.
+#[test]
+fn pairs_of_words_are_words() {
+    assert_eq!((7_u8, -1_i64).written(), [7, u64::MAX]);
+    assert_eq!((User(7), 8_u32).written(), [7, 8]);
+    assert_eq!(7_u16.written(), [0, 7]);
+    let triple = ("a", 1_u8, "b").written();
+    let pair = (("a", 1_u8), "b").written();
+    assert!(triple.len() < pair.len());
+    assert_eq!(triple[..9], ("a", 1_u8).written()[..9]);
 }
 
 #[test]
@@ -908,6 +981,19 @@ fn errors_say_what_happened() {
     }
     let missing = GetError::Init(io::Error::from(io::ErrorKind::NotFound));
     assert_eq!(io::Error::from(missing).kind(), io::ErrorKind::NotFound);
+}
+
+#[test]
+fn room_is_made_in_advance_or_refused() -> Result<(), Refusal> {
+    let cache = LruCache::<u64, u64>::new(10)?;
+    cache.reserve(1000)?;
+    assert_eq!(cache.reserve(usize::MAX), Err(Refusal::Memory));
+    let shards = concurrent_lru_proved::sharded::LruCache::<u64, u64>::new(1000)?;
+    shards.reserve(1000)?;
+    assert_eq!(shards.reserve(usize::MAX), Err(Refusal::Memory));
+    cache.insert(&1, 1, 1)?;
+    assert!(cache.contains(&1)?);
+    Ok(())
 }
 
 /// What `for_each` shows, in the order of the values: value, charge, pins.

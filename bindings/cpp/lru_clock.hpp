@@ -1,0 +1,972 @@
+// A cache that threads share, whose hits take no lock, built on the clock of lru.h.
+//
+//   lru::ClockCache<Page, std::uint64_t> cache(1000);
+//   auto page = cache.get_or_init(7, 1, [](std::uint64_t number) { return Page(number); });
+//   use(*page);  // pinned: the value stays while the handle lives
+//
+// Its members have the names of lru::ShardedCache of lru.hpp and do the same, except for this:
+//
+//   - Keys are integers, enumerations, pairs of them, lru::Words, or of a type for which lru::Key
+//     is specialised with a `written` that returns Words.
+//   - Values are evicted in about the order of their last uses, and not exactly. A value that is
+//     used often is spared several times.
+//   - The capacity is never a strict limit, and the end of a handle evicts nothing. If pinned
+//     values take the total above the capacity, the next call that adds a value, or set_capacity,
+//     evicts down to it.
+//   - A value counts once it has been made: values are evicted for it then, and not before `init`
+//     runs. Its charge is that of the call that made it.
+//   - A caller that waits for a value makes one of its own if the key is taken away meanwhile, or
+//     if the value is evicted at once.
+//   - `read` calls its function without the lock. `contains` is a use of the value. No call tells
+//     how many handles a value has.
+//   - An `insert` for which there is no memory may leave the key without a value.
+//   - There is no listener, stats, reserve, advice_evict or release_and_evict, and no hash of the
+//     program's own.
+//
+// Of the clock of lru.h less is proved than of the other caches: THE CLOCK there says what. This
+// header adds the locks, the waiting and the values. It is ordinary C++, tested with
+// AddressSanitizer and UBSan.
+//
+// Requires what lru.hpp requires.
+#ifndef CONCURRENT_LRU_CLOCK_HPP
+#define CONCURRENT_LRU_CLOCK_HPP
+
+#include <pthread.h>
+
+#include <atomic>
+#include <cassert>
+#include <condition_variable>
+#include <cstddef>
+#include <cstdint>
+#include <functional>
+#include <memory>
+#include <mutex>
+#include <new>
+#include <optional>
+#include <stdexcept>
+#include <type_traits>
+#include <utility>
+#include <vector>
+
+#include "lru.hpp"
+
+namespace lru {
+
+template <class Value, class Key>
+class ClockCache;
+template <class Value, class Key>
+class ClockMaker;
+
+namespace detail {
+
+// A thread that has a number, in the list of them. Its memory is the thread's own.
+struct NumberedThread {
+  static constexpr std::uint32_t kNone = UINT32_MAX;
+
+  std::uint32_t number = kNone;
+  bool is_ending = false;
+  NumberedThread* next = nullptr;
+};
+
+// Numbers the threads of the process that use a clock: each has the least number that no other
+// thread has, until it ends. Nothing here throws. It is visible, so that all shared libraries of a
+// program give the same numbers.
+class [[gnu::visibility("default")]] ThreadNumbers {
+ public:
+  // The number of this thread, or kNone if it has none: there is no memory for it, or the thread
+  // is about to end.
+  static std::uint32_t mine() noexcept {
+    return mine_.number != NumberedThread::kNone ? mine_.number : take();
+  }
+
+ private:
+  // What tells that a thread ends. A thread_local object would end the program if there is no
+  // memory to register its destructor. It is closed when the program ends, or the shared library
+  // that has this code is unloaded.
+  struct Key {
+    Key() noexcept : is_open(pthread_key_create(&key, give_back) == 0) {}
+    ~Key() {
+      if (is_open.exchange(false)) pthread_key_delete(key);
+    }
+
+    pthread_key_t key = 0;
+    std::atomic<bool> is_open;
+  };
+
+  [[gnu::cold, gnu::noinline]] static std::uint32_t take() noexcept {
+    static Key key;
+    NumberedThread* const mine = &mine_;
+    if (mine->is_ending || !key.is_open || pthread_setspecific(key.key, mine) != 0) {
+      return NumberedThread::kNone;
+    }
+    const std::lock_guard<std::mutex> lock(mutex_);
+    std::uint32_t number = 0;
+    NumberedThread** place = &first_;
+    for (; *place != nullptr && (*place)->number == number; number++) place = &(*place)->next;
+    mine->number = number;
+    mine->next = std::exchange(*place, mine);
+    return number;
+  }
+
+  static void give_back(void* at) noexcept {
+    auto* const mine = static_cast<NumberedThread*>(at);
+    const std::lock_guard<std::mutex> lock(mutex_);
+    NumberedThread** place = &first_;
+    while (*place != mine) place = &(*place)->next;
+    *place = mine->next;
+    mine->number = NumberedThread::kNone;
+    mine->is_ending = true;
+  }
+
+  static inline thread_local NumberedThread mine_;
+  static inline std::mutex mutex_;
+  static inline NumberedThread* first_ = nullptr;  // in the order of their numbers
+};
+
+// The readers of a cache: each thread has a lane of them, with a reader of each shard, which only
+// that thread uses. A reader is opened by the first call of its thread on its shard. The lanes are
+// in chunks, each for twice as many threads as the one before, which never move.
+class Lanes {
+ public:
+  explicit Lanes(std::size_t shards) noexcept : lines_((shards + kInLine - 1) / kInLine) {}
+
+  ~Lanes() {
+    for (std::size_t number = 0; number < kChunks; number++) {
+      const std::unique_ptr<Line[]> chunk(chunks_[number].load(std::memory_order_acquire));
+      if (chunk == nullptr) continue;
+      for (std::size_t line = 0; line < count_of(number); line++) {
+        for (lru_reader& reader : chunk[line].readers) lru_reader_free(&reader);
+      }
+    }
+  }
+
+  Lanes(const Lanes&) = delete;
+  Lanes& operator=(const Lanes&) = delete;
+
+  // This thread's reader of a shard, which need not be open. Null if the thread has no number, or
+  // there is no memory for its lane.
+  lru_reader* mine(std::size_t shard) noexcept {
+    const std::uint64_t number = ThreadNumbers::mine() + kFirst;
+    if (number >= kFirst << kChunks) return nullptr;
+    const std::size_t chunk = static_cast<std::size_t>(63 - __builtin_clzll(number / kFirst));
+    Line* lines = chunks_[chunk].load(std::memory_order_acquire);
+    if (lines == nullptr && (lines = add(chunk)) == nullptr) return nullptr;
+    const std::size_t lane = static_cast<std::size_t>(number - (kFirst << chunk));
+    return &lines[lane * lines_ + shard / kInLine].readers[shard % kInLine];
+  }
+
+ private:
+  static constexpr std::size_t kInLine = 4;
+
+  // No two lanes share a line of the processor's cache.
+  struct alignas(64) Line {
+    lru_reader readers[kInLine];
+  };
+  static_assert(sizeof(Line) == 64, "lru: a line of readers is a line of the processor's cache");
+
+  // How many lanes the first chunk has, and how many chunks there are: enough for twice as many
+  // threads as Linux can have.
+  static constexpr std::uint64_t kFirst = 8;
+  static constexpr std::size_t kChunks = 20;
+
+  std::size_t count_of(std::size_t chunk) const noexcept {
+    return static_cast<std::size_t>(kFirst << chunk) * lines_;
+  }
+
+  [[gnu::cold, gnu::noinline]] Line* add(std::size_t number) noexcept {
+    std::unique_ptr<Line[]> chunk(new (std::nothrow) Line[count_of(number)]());
+    Line* other = nullptr;
+    if (chunk == nullptr || !chunks_[number].compare_exchange_strong(other, chunk.get())) {
+      return other;
+    }
+    return chunk.release();
+  }
+
+  const std::size_t lines_;  // of a lane
+  std::atomic<Line*> chunks_[kChunks] = {};
+};
+
+// A value of a ClockCache, on the heap.
+template <class Value>
+struct ClockNode {
+  // The value that `init` returns is made in place, so it need not be movable.
+  template <class Init, class Key>
+  ClockNode(ByInit, Init&& init, const Key& k) : value(std::invoke(std::forward<Init>(init), k)) {}
+  template <class... Args>
+  explicit ClockNode(std::in_place_t, Args&&... args) : value(std::forward<Args>(args)...) {}
+
+  Value value;
+  Words key = {};
+  // The lock of the shard protects these.
+  union {
+    std::uint64_t charge = 0;  // 0 once its key no longer finds it
+    ClockNode* next;           // once it has left the cache
+  };
+};
+
+// A key, the hash by which the clock of a shard finds it, and the shard.
+struct ClockKey {
+  Words words;
+  std::uint64_t hash;
+  std::uint32_t shard;
+};
+
+}  // namespace detail
+
+// A pinned value of a ClockCache, as lru::Handle is of a Cache.
+//
+// A handle may be used and destroyed on any thread, by one thread at a time, and must not outlive
+// its cache. It is empty once it has been moved from or reset, and ClockCache::get returns an empty
+// one if the key has no value.
+template <class Value, class Key>
+class ClockHandle {
+ public:
+  ClockHandle() = default;
+  ~ClockHandle() { reset(); }
+
+  ClockHandle(ClockHandle&& other) noexcept
+      : cache_(std::exchange(other.cache_, nullptr)),
+        node_(other.node_),
+        place_(other.place_),
+        shard_(other.shard_) {}
+  ClockHandle& operator=(ClockHandle&& other) noexcept {
+    ClockHandle(std::move(other)).swap(*this);
+    return *this;
+  }
+  ClockHandle(const ClockHandle&) = delete;
+  ClockHandle& operator=(const ClockHandle&) = delete;
+
+  // Whether the handle has a value.
+  explicit operator bool() const noexcept { return cache_ != nullptr; }
+
+  // The value. The handle must not be empty, except for get(), which returns null then.
+  Value& operator*() const noexcept { return *get(); }
+  Value* operator->() const noexcept { return get(); }
+  Value* get() const noexcept { return cache_ == nullptr ? nullptr : std::addressof(node_->value); }
+
+  // Another handle of the same value, even if the key has another value by now, or none. Takes no
+  // lock, and is no use of the value. Returns an empty handle if this one is empty. Throws Overflow
+  // if the value has about 2^30 handles; nothing changes then.
+  ClockHandle clone() const {
+    return cache_ == nullptr ? ClockHandle() : cache_->repin(shard_, place_);
+  }
+
+  // Releases the value; the handle is empty then. Takes the lock only if the value was invalidated
+  // or replaced and this was its last handle: it is deleted then.
+  void reset() noexcept {
+    if (cache_ != nullptr) std::exchange(cache_, nullptr)->release(shard_, place_);
+  }
+
+  // Exchanges the values of two handles.
+  void swap(ClockHandle& other) noexcept {
+    std::swap(cache_, other.cache_);
+    std::swap(node_, other.node_);
+    std::swap(place_, other.place_);
+    std::swap(shard_, other.shard_);
+  }
+  friend void swap(ClockHandle& one, ClockHandle& other) noexcept { one.swap(other); }
+
+ private:
+  friend class ClockCache<Value, Key>;
+  using Node = detail::ClockNode<Value>;
+
+  ClockHandle(const ClockCache<Value, Key>* cache, Node* node, std::uint32_t place,
+              std::uint32_t shard)
+      : cache_(cache), node_(node), place_(place), shard_(shard) {}
+
+  const ClockCache<Value, Key>* cache_ = nullptr;
+  Node* node_ = nullptr;
+  std::uint32_t place_ = 0;
+  std::uint32_t shard_ = 0;
+};
+
+// The duty to make the value of a key, from ClockCache::begin or try_begin, as lru::Maker is of a
+// Cache. Other callers that ask for the key wait meanwhile. A maker that is destroyed before
+// `ready` fails: the cache keeps no entry, and one of those that wait makes the value.
+//
+// A maker is moved, not copied. It is empty once it has been moved from, or has ended by `ready` or
+// `fail`. It may be used and destroyed on any thread, by one thread at a time, and must not outlive
+// its cache.
+template <class Value, class Key>
+class ClockMaker {
+ public:
+  ClockMaker() = default;
+  ~ClockMaker() { fail(); }
+
+  ClockMaker(ClockMaker&& other) noexcept { take(&other); }
+  ClockMaker& operator=(ClockMaker&& other) noexcept {
+    if (this != &other) {
+      fail();
+      take(&other);
+    }
+    return *this;
+  }
+  ClockMaker(const ClockMaker&) = delete;
+  ClockMaker& operator=(const ClockMaker&) = delete;
+
+  // Whether there is a value to make.
+  explicit operator bool() const noexcept { return cache_ != nullptr; }
+
+  // Constructs the value in place from these arguments, such as another value to be moved, and
+  // returns a handle of it. The maker is empty then. Throws std::bad_alloc and what the constructor
+  // throws; the maker still has the duty then. Throws std::logic_error if the maker is empty.
+  //
+  // Throws OutOfMemory and Overflow if the cache refuses the value: it is deleted, and the maker
+  // has failed. Other values may have been evicted for it.
+  template <class... Args>
+  ClockHandle<Value, Key> ready(Args&&... args) {
+    static_assert(std::is_constructible_v<Value, Args...>,
+                  "lru: ready is called with what the value can be constructed from");
+    if (cache_ == nullptr) throw std::logic_error("lru: ready is called on an empty maker");
+    return cache_->ready(this, std::make_unique<Node>(std::in_place, std::forward<Args>(args)...));
+  }
+
+  // Gives up, as the destructor does. Of an empty maker, nothing.
+  void fail() noexcept {
+    if (cache_ != nullptr) cache_->fail(this);
+  }
+
+ private:
+  friend class ClockCache<Value, Key>;
+  using Node = detail::ClockNode<Value>;
+
+  void take(ClockMaker* other) noexcept {
+    if (other->cache_ != nullptr) other->cache_->move(other, this);
+  }
+
+  // Null if the maker is empty. Of the maker's own thread alone, which reads it without the lock.
+  const ClockCache<Value, Key>* cache_ = nullptr;
+  detail::ClockKey key_ = {};
+  std::uint64_t charge_ = 0;
+  std::uint64_t ticket_ = 0;
+
+  // From its beginning to its end a maker stands in the list of its shard. These need the lock.
+  ClockMaker** place_ = nullptr;  // what leads to this one: the shard, or the one before
+  ClockMaker* next_ = nullptr;
+  bool is_detached_ = false;  // whether the key was taken away: later callers make another value
+  bool is_awaited_ = false;   // whether a caller waits for its end
+};
+
+// What ClockCache::begin and try_begin return: a handle if the key has a value, or a maker. The
+// other one is empty. After try_begin both are empty if another caller is making the value.
+template <class Value, class Key>
+struct ClockBegun {
+  ClockHandle<Value, Key> handle;
+  ClockMaker<Value, Key> maker;
+};
+
+// A cache of several shards, each with its own lock and an equal share of the capacity, rounded up.
+// The head of this file says what it has less than a ShardedCache. All members may be called from
+// any thread at any time, except the constructor and the destructor.
+//
+// A hit takes no lock, nor does the end of its handle: each thread finds values by readers of its
+// own. They are made by its first call on each shard, and stay for a later thread when it ends. A
+// thread for which there is no memory for them takes the lock of the shard instead.
+//
+// No lock is held while `init` makes a value or a value is deleted. So both may take long, and may
+// call the cache. But `init` must not ask for the key whose value it makes, and must not wait for
+// another thread that does: it would wait for itself. The same applies to the destructors of values
+// that are evicted for the new one. Destructors of values must not throw.
+template <class Value, class Key>
+class alignas(64) ClockCache {
+  static_assert(std::is_same_v<typename detail::WrittenAs<Key>::Form, Words>,
+                "lru: the keys of a ClockCache are integers, enumerations, pairs of them, "
+                "lru::Words, or of a type whose lru::Key<..>::written returns lru::Words");
+  using Argument = detail::Argument<Key>;
+  using Shown = detail::Shown<Key, Words>;
+
+ public:
+  using Handle = ClockHandle<Value, Key>;
+  using Maker = ClockMaker<Value, Key>;
+  using Begun = ClockBegun<Value, Key>;
+
+  // An empty cache, whose seed is random. `capacity` is that of all shards together. The number of
+  // shards is that of shards_for, for charges of 1 unless the typical one is passed. Throws
+  // std::bad_alloc, and what std::random_device throws.
+  explicit ClockCache(std::uint64_t capacity, TypicalCharge typical = TypicalCharge(1))
+      : ClockCache(capacity, shards_for(capacity, typical.charge)) {}
+
+  // The same with this number of shards. Throws std::invalid_argument if it is 0 or above 2^32 - 1.
+  ClockCache(std::uint64_t capacity, std::size_t shards)
+      : ClockCache(capacity, Seed::random(), shards) {}
+
+  // The same with the seed of a test. Keys are hashed with it, and the hash chooses the shard too.
+  ClockCache(std::uint64_t capacity, Seed seed)
+      : ClockCache(capacity, seed, shards_for(capacity, 1)) {}
+  ClockCache(std::uint64_t capacity, Seed seed, std::size_t shards)
+      : seed_(seed), count_(checked(shards)), shards_(new Shard[shards]), lanes_(shards) {
+    for (std::size_t i = 0; i < shards; i++) {
+      Shard& shard = shards_[i];
+      if (lru_clock_new(detail::share(capacity, count_), &shard.clock) != LRU_DONE ||
+          lru_reader_new(&shard.clock, &shard.reader) != LRU_DONE) {
+        throw OutOfMemory();
+      }
+    }
+  }
+
+  // Deletes all values. There must be no handle and no maker left, as it would dangle; this is
+  // asserted. The destructors of the values must not call this cache: a call that finds or adds
+  // values throws std::logic_error, which ends the program if it leaves a destructor.
+  ~ClockCache() {
+    Evicted evicted;
+    for (std::size_t i = 0; i < count_; i++) {
+      Shard& shard = shards_[i];
+      prune(&shard, &evicted);
+      [[maybe_unused]] const lru_code code = lru_clock_free(&shard.clock);
+      assert(code == LRU_DONE && shard.makers == nullptr &&
+             "lru: a handle or a maker outlives its cache");
+    }
+  }
+
+  ClockCache(const ClockCache&) = delete;
+  ClockCache& operator=(const ClockCache&) = delete;
+
+  // A handle of the key's value, or an empty one if there is no value or it is still being made.
+  // Takes the lock only if it finds no value. Does not wait for a value. Throws Overflow if the
+  // value has about 2^30 handles.
+  Handle get(Argument key) {
+    const Hashed hashed = hash(key);
+    return find(hashed);
+  }
+
+  // Calls `reader` with the key's value, and returns what it returned: a std::optional of it, or a
+  // bool if that is void. It is empty, or false, if there is no value or it is still being made.
+  // Is the same as `get` with the end of its handle: no lock is held while `reader` runs, so it may
+  // take long, and may call the cache. Throws what `get` and `reader` throw.
+  template <class Reader>
+  auto read(Argument key, Reader&& reader) {
+    using Result = std::decay_t<std::invoke_result_t<Reader, Value&>>;
+    const Handle found = get(key);
+    if constexpr (std::is_void_v<Result>) {
+      if (found) std::invoke(std::forward<Reader>(reader), *found);
+      return static_cast<bool>(found);
+    } else {
+      if (!found) return std::optional<Result>();
+      return std::optional<Result>(std::invoke(std::forward<Reader>(reader), *found));
+    }
+  }
+
+  // A handle of the key's value. If there is none, `init(key)` makes it. Takes the lock only if it
+  // finds no value.
+  //
+  // Only one caller at a time makes a key's value; the others wait for it. If `init` throws, the
+  // exception leaves this call and the cache keeps no entry. If others are waiting, one of them
+  // makes the value instead, with its own `init` and charge. So does one that has waited for a
+  // value that was evicted at once.
+  //
+  // `charge` is what the value counts for against the capacity, in units of the caller's choice; it
+  // must be above 0, even if the key has a value. If the value exists already or is made by another
+  // caller, its charge does not change.
+  //
+  // Throws ZeroCharge, Overflow and OutOfMemory before `init` runs, and nothing changes. If there
+  // is no memory for the value that was made, or its charge is too much by then, std::bad_alloc or
+  // Overflow is thrown as if by `init`; other values may have been evicted for it.
+  template <class Init>
+  Handle get_or_init(Argument key, std::uint64_t charge, Init&& init) {
+    static_assert(std::is_invocable_v<Init, const Key&>,
+                  "lru: init is called with the key, as `[](const Key& key) { .. }` can be");
+    if (charge == 0) detail::throw_refusal(LRU_NO_CHARGE);
+    const Hashed hashed = hash(key);
+    lru_reader* const reader = lanes_.mine(hashed.shard);
+    lru_found found = pin(reader, hashed);
+    if (found.code == LRU_HIT) return handle(found, hashed.shard);
+    Maker maker;
+    found = begin(hashed, charge, closed(reader, found), true, &maker);
+    if (found.code == LRU_HIT) return handle(found, hashed.shard);
+    return ready(&maker, std::make_unique<Node>(detail::ByInit(), std::forward<Init>(init), key));
+  }
+
+  // Does what get_or_init does, but leaves it to the caller to make the value, at any time and on
+  // any thread:
+  //
+  //   auto [page, maker] = cache.begin(7, 1);
+  //   if (maker) page = maker.ready(load(7));
+  //
+  // Waits if another caller is making the value, so a thread that has a maker must not call this
+  // with its key. Throws what get_or_init throws before `init` runs.
+  Begun begin(Argument key, std::uint64_t charge) { return begin(key, charge, true); }
+
+  // The same, but never waits: if another caller is making the value, the handle and the maker that
+  // it returns are both empty, and nothing has changed.
+  Begun try_begin(Argument key, std::uint64_t charge) { return begin(key, charge, false); }
+
+  // Makes `value` the key's value, whatever the key had, and returns a handle of it. Other callers
+  // find the old value or the new one. Handles of the old value keep it, and it counts against the
+  // capacity, until the last of them is released. A value that is being made is its maker's alone;
+  // those who wait for it get the new one.
+  //
+  // Throws ZeroCharge, and Overflow if the charge would take the total of its shard, with the old
+  // value, above 2^64 - 1, or the old value has about 2^30 handles: nothing changes then. Throws
+  // std::bad_alloc if there is no memory for the value: the key may have lost its old value then,
+  // and others may have been evicted. The new one is deleted.
+  template <class V>
+  Handle insert(Argument key, std::uint64_t charge, V&& value) {
+    if (charge == 0) detail::throw_refusal(LRU_NO_CHARGE);
+    auto node = std::make_unique<Node>(std::in_place, std::forward<V>(value));
+    const Hashed hashed = hash(key);
+    Shard& shard = shards_[hashed.shard];
+    Evicted evicted;
+    Lock lock(shard.mutex);
+    if (charge > UINT64_MAX - lru_clock_total(&shard.clock).value) {
+      detail::throw_refusal(LRU_OVERFLOW);
+    }
+    const bool is_awaited = detach(&shard, hashed, &evicted);
+    make_room(&shard, charge, &evicted);
+    node->key = hashed.words;
+    node->charge = charge;
+    const lru_found found = lru_clock_add(&shard.clock, hashed.hash, hashed.words.first,
+                                          hashed.words.second, charge, word_of(node.get()));
+    lock.unlock();
+    if (is_awaited) shard.ended.notify_all();
+    if (found.code != LRU_DONE) detail::throw_refusal(found.code);
+    return Handle(this, node.release(), found.place, hashed.shard);
+  }
+
+  // Whether the key has a value, as `get` looks for it. Is a use of the value.
+  bool contains(Argument key) const {
+    const Hashed hashed = hash(key);
+    return static_cast<bool>(find(hashed));
+  }
+
+  // Takes the key's value away: the next caller that asks for the key makes a new one. Handles of
+  // the old value keep it, as with `insert`. Those who wait for a value that is being made make one
+  // of their own. Throws Overflow if the value has about 2^30 handles; nothing changes then.
+  void invalidate(Argument key) {
+    const Hashed hashed = hash(key);
+    Shard& shard = shards_[hashed.shard];
+    Evicted evicted;
+    Lock lock(shard.mutex);
+    const bool is_awaited = detach(&shard, hashed, &evicted);
+    lock.unlock();
+    if (is_awaited) shard.ended.notify_all();
+  }
+
+  // Evicts every idle value, one shard after another.
+  void prune() {
+    for (std::size_t i = 0; i < count_; i++) {
+      Evicted evicted;
+      const Lock lock(shards_[i].mutex);
+      prune(&shards_[i], &evicted);
+    }
+  }
+
+  // Takes the value of every key away, as `invalidate` does for one key, one shard after another.
+  // What other threads insert meanwhile may stay. Needs no memory. Throws Overflow if a value has
+  // about 2^30 handles; values of other keys may have left then.
+  void clear() {
+    for (std::size_t i = 0; i < count_; i++) clear(&shards_[i]);
+  }
+
+  // Takes the values away, as `invalidate` does, for which `predicate(key, value, charge)` is true,
+  // and returns how many they are. It is called once for each value that its key finds, in no
+  // particular order; values that are being made stay. One shard is served after another, with its
+  // lock held: `predicate` must not call the cache, nor destroy a handle, and other calls that need
+  // the lock wait.
+  //
+  // Throws std::bad_alloc, Overflow if a value has about 2^30 handles, and what `predicate` throws;
+  // the shards before have been served then, and no value of this one has left.
+  template <class Predicate>
+  std::uint64_t erase_if(Predicate&& predicate) {
+    std::uint64_t erased = 0;
+    for (std::size_t i = 0; i < count_; i++) {
+      Evicted evicted;
+      const Lock lock(shards_[i].mutex);
+      std::vector<Hashed> chosen;
+      visit(&shards_[i], &evicted, [&](Node& node) {
+        const Value& value = node.value;
+        if (std::invoke(predicate, Shown::of(node.key), value, std::uint64_t{node.charge})) {
+          chosen.push_back(hash_words(node.key));
+        }
+      });
+      // None of these keys is being made, as it has a value.
+      for (const Hashed& key : chosen) detach(&shards_[i], key, &evicted);
+      erased += chosen.size();
+    }
+    return erased;
+  }
+
+  // Calls `visit(key, value, charge)` for each value that its key finds, in no particular order,
+  // one shard after another. Values that are being made are left out, and so are those that were
+  // invalidated or replaced. This is no use of a value.
+  //
+  // The lock of the shard is held meanwhile, so `visit` must not call the cache, nor destroy a
+  // handle, and other calls that need the lock wait. The value may be changed only as a handle may
+  // change it. Throws what `visit` throws, and Overflow if a value has about 2^30 handles.
+  template <class Visit>
+  void for_each(Visit&& visit) const {
+    for (std::size_t i = 0; i < count_; i++) {
+      Evicted evicted;
+      const Lock lock(shards_[i].mutex);
+      this->visit(&shards_[i], &evicted, [&](Node& node) {
+        std::invoke(visit, Shown::of(node.key), node.value, std::uint64_t{node.charge});
+      });
+    }
+  }
+
+  // The number of values, including those that were invalidated or replaced and still have a
+  // handle, but not those that are being made. The shards are read one after another, so while
+  // other threads call the cache it is no snapshot.
+  std::uint64_t len() const { return sum(lru_clock_len); }
+
+  // The total of the charges of these values, or 2^64 - 1 if it is more. No snapshot, as `len`.
+  std::uint64_t total_charge() const { return sum(lru_clock_total); }
+
+  // The total of the charges of the values that have a handle, or 2^64 - 1 if it is more. No
+  // snapshot, as `len`. Takes time in proportion to the greatest number of values that there were
+  // at once.
+  std::uint64_t pinned_charge() const { return sum(lru_clock_pinned_charge); }
+
+  // The total of the capacities of all shards, or 2^64 - 1 if it is more. Rounding may make it
+  // more than the capacity that was set.
+  std::uint64_t capacity() const { return sum(lru_clock_capacity); }
+
+  // The number of shards.
+  std::size_t shards() const noexcept { return count_; }
+
+  // Sets the capacity, of which each shard gets an equal share, rounded up. Idle values that exceed
+  // it are evicted at once.
+  void set_capacity(std::uint64_t capacity) {
+    for (std::size_t i = 0; i < count_; i++) {
+      Shard& shard = shards_[i];
+      Evicted evicted;
+      const Lock lock(shard.mutex);
+      lru_clock_set_capacity(&shard.clock, detail::share(capacity, count_));
+      make_room(&shard, 0, &evicted);
+    }
+  }
+
+ private:
+  friend Handle;
+  friend Maker;
+  using Hashed = detail::ClockKey;
+  using Node = detail::ClockNode<Value>;
+  // Always declared before the lock is taken: it is destroyed, and the values with it, after the
+  // lock is released.
+  using Evicted = detail::Evicted<Node>;
+  using Lock = std::unique_lock<detail::Mutex>;
+
+  // What the lock of a shard protects. A hit reads none of it. Shards do not share cache lines, so
+  // that threads at different shards do not slow each other.
+  struct alignas(64) Shard {
+    ~Shard() {
+      lru_reader_free(&reader);
+      lru_clock_free(&clock);
+    }
+
+    detail::Mutex mutex;
+    lru_clock clock = {};
+    lru_reader reader = {};         // for any thread that holds the lock
+    Maker* makers = nullptr;        // of the values that are being made
+    std::condition_variable ended;  // notified when a maker that others wait for has ended
+  };
+
+  static std::size_t checked(std::size_t shards) {
+    if (shards == 0 || shards > UINT32_MAX) {
+      throw std::invalid_argument("lru: the number of shards is 0 or above 2^32 - 1");
+    }
+    return shards;
+  }
+
+  template <class Number>
+  std::uint64_t sum(Number number) const {
+    std::uint64_t sum = 0;
+    for (std::size_t i = 0; i < count_; i++) {
+      const Lock lock(shards_[i].mutex);
+      sum = detail::saturating_add(sum, number(&shards_[i].clock).value);
+    }
+    return sum;
+  }
+
+  // The lower half of the hash chooses the shard, and a clock uses the upper half. Both depend on
+  // all bits of the key.
+  Hashed hash(Argument key) const { return hash_words(lru::Key<Key>::written(key)); }
+  Hashed hash_words(Words words) const noexcept {
+    const std::uint64_t mixed = lru_hash_multiply(words.first ^ seed_.number, 0x9e3779b97f4a7c05u);
+    const std::uint64_t hash = lru_hash_multiply(mixed ^ words.second, 0xbf58476d1ce4e5b9u);
+    const std::uint64_t shard = std::uint64_t{static_cast<std::uint32_t>(hash)} * count_ >> 32;
+    return {words, hash, static_cast<std::uint32_t>(shard)};
+  }
+
+  static Node* node_of(std::uint64_t value) noexcept {
+    return reinterpret_cast<Node*>(static_cast<std::uintptr_t>(value));
+  }
+  static std::uint64_t word_of(Node* node) noexcept {
+    return static_cast<std::uint64_t>(reinterpret_cast<std::uintptr_t>(node));
+  }
+
+  Handle handle(const lru_found& found, std::uint32_t shard) const noexcept {
+    return Handle(this, node_of(found.value), found.place, shard);
+  }
+
+  // Without the lock. A reader that is null or not open is answered as a closed one.
+
+  static lru_found pin(lru_reader* reader, const Hashed& key) noexcept {
+    if (reader == nullptr) return {0, LRU_CLOSED, 0};
+    return lru_reader_pin(reader, key.hash, key.words.first, key.words.second);
+  }
+
+  // The reader if it was found to be closed, or else null. To open one that is open would write
+  // what all readers of its shard share.
+  static lru_reader* closed(lru_reader* reader, const lru_found& found) noexcept {
+    return found.code == LRU_CLOSED ? reader : nullptr;
+  }
+
+  Handle find(const Hashed& key) const {
+    lru_reader* const reader = lanes_.mine(key.shard);
+    lru_found found = pin(reader, key);
+    if (found.code != LRU_HIT) found = find_locked(key, closed(reader, found));
+    return found.code == LRU_HIT ? handle(found, key.shard) : Handle();
+  }
+
+  // Another handle of the value at a place, which a handle of the caller pins.
+  Handle repin(std::uint32_t number, std::uint32_t place) const {
+    lru_reader* const reader = lanes_.mine(number);
+    lru_found found = {0, LRU_CLOSED, 0};
+    if (reader != nullptr) found = lru_reader_pin_at(reader, place);
+    if (found.code == LRU_CLOSED) {
+      Shard& shard = shards_[number];
+      const Lock lock(shard.mutex);
+      open(&shard, reader);
+      found = lru_reader_pin_at(&shard.reader, place);
+    }
+    if (found.code != LRU_HIT) detail::throw_refusal(found.code);
+    return handle(found, number);
+  }
+
+  void release(std::uint32_t number, std::uint32_t place) const noexcept {
+    lru_reader* const reader = lanes_.mine(number);
+    lru_code code = LRU_CLOSED;
+    if (reader != nullptr) code = lru_reader_unpin(reader, place);
+    if (code != LRU_DONE) release_locked(number, place, reader, code);
+  }
+
+  // These take the lock.
+
+  // Misses no value, as a look-up without the lock may while the clock is written. Opens the
+  // reader, unless it is null.
+  [[gnu::cold, gnu::noinline]] lru_found find_locked(const Hashed& key, lru_reader* reader) const {
+    Shard& shard = shards_[key.shard];
+    Lock lock(shard.mutex);
+    open(&shard, reader);
+    const lru_found found =
+        lru_clock_find(&shard.clock, key.hash, key.words.first, key.words.second);
+    lock.unlock();
+    if (found.code != LRU_HIT && found.code != LRU_MISSED) detail::throw_refusal(found.code);
+    return found;
+  }
+
+  // Gives a pin back, if the reader was not open, and takes out the value if that was the last pin
+  // of one that was invalidated.
+  [[gnu::cold, gnu::noinline]] void release_locked(std::uint32_t number, std::uint32_t place,
+                                                   lru_reader* reader,
+                                                   lru_code code) const noexcept {
+    Shard& shard = shards_[number];
+    Evicted evicted;
+    const Lock lock(shard.mutex);
+    if (code == LRU_CLOSED) {
+      open(&shard, reader);
+      code = lru_reader_unpin(&shard.reader, place);
+    }
+    assert(code == LRU_DONE || code == LRU_LAST);
+    if (code == LRU_LAST) collect(&shard, place, &evicted);
+  }
+
+  Begun begin(Argument key, std::uint64_t charge, bool waits) {
+    Begun begun;
+    if (charge == 0) detail::throw_refusal(LRU_NO_CHARGE);
+    const Hashed hashed = hash(key);
+    lru_reader* const reader = lanes_.mine(hashed.shard);
+    lru_found found = pin(reader, hashed);
+    if (found.code != LRU_HIT) {
+      found = begin(hashed, charge, closed(reader, found), waits, &begun.maker);
+    }
+    if (found.code == LRU_HIT) begun.handle = handle(found, hashed.shard);
+    return begun;
+  }
+
+  // Finds the key's value: LRU_HIT. Or begins to make it: LRU_MAKE. Or, unless it is to wait for
+  // another caller that makes it: LRU_WAIT. Opens the reader, unless it is null.
+  [[gnu::noinline]] lru_found begin(const Hashed& key, std::uint64_t charge, lru_reader* reader,
+                                    bool waits, Maker* maker) {
+    Shard& shard = shards_[key.shard];
+    const auto ask = [&] {
+      return lru_clock_begin(&shard.clock, key.hash, key.words.first, key.words.second, charge);
+    };
+    Lock lock(shard.mutex);
+    open(&shard, reader);
+    lru_found found = ask();
+    while (found.code == LRU_WAIT && waits) {
+      making(shard, key.words)->is_awaited_ = true;
+      shard.mutex.wait(&shard.ended);
+      found = ask();
+    }
+    if (found.code == LRU_MAKE) {
+      maker->key_ = key;
+      maker->charge_ = charge;
+      maker->ticket_ = found.value;
+      enlist(maker);
+    }
+    lock.unlock();
+    if (found.code != LRU_MAKE && found.code != LRU_HIT && found.code != LRU_WAIT) {
+      detail::throw_refusal(found.code);
+    }
+    return found;
+  }
+
+  // Gives the node to the clock.
+  Handle ready(Maker* maker, std::unique_ptr<Node> made) const {
+    const Hashed key = maker->key_;
+    Shard& shard = shards_[key.shard];
+    Evicted evicted;
+    Lock lock(shard.mutex);
+    make_room(&shard, maker->charge_, &evicted);
+    made->key = key.words;
+    made->charge = maker->is_detached_ ? 0 : maker->charge_;
+    const lru_found found = lru_clock_ready(&shard.clock, maker->ticket_, key.hash, maker->charge_,
+                                            word_of(made.get()));
+    delist(maker);
+    const bool is_awaited = maker->is_awaited_;
+    lock.unlock();
+    if (is_awaited) shard.ended.notify_all();
+    if (found.code != LRU_DONE) detail::throw_refusal(found.code);
+    return Handle(this, made.release(), found.place, key.shard);
+  }
+
+  void fail(Maker* maker) const noexcept {
+    Shard& shard = shards_[maker->key_.shard];
+    Lock lock(shard.mutex);
+    [[maybe_unused]] const lru_code code = lru_clock_fail(&shard.clock, maker->ticket_);
+    delist(maker);
+    const bool is_awaited = maker->is_awaited_;
+    lock.unlock();
+    assert(code == LRU_DONE);
+    if (is_awaited) shard.ended.notify_all();
+  }
+
+  void move(Maker* from, Maker* to) const noexcept {
+    const Lock lock(shards_[from->key_.shard].mutex);
+    delist(from);
+    to->key_ = from->key_;
+    to->charge_ = from->charge_;
+    to->ticket_ = from->ticket_;
+    to->is_detached_ = from->is_detached_;
+    to->is_awaited_ = from->is_awaited_;
+    enlist(to);
+  }
+
+  void clear(Shard* shard) {
+    Evicted evicted;
+    bool is_awaited = false;
+    Lock lock(shard->mutex);
+    visit(shard, &evicted, [&](Node& node) { detach(shard, hash_words(node.key), &evicted); });
+    for (const Maker* maker = shard->makers; maker != nullptr; maker = maker->next_) {
+      if (!maker->is_detached_) is_awaited |= detach(shard, maker->key_, &evicted);
+    }
+    lock.unlock();
+    if (is_awaited) shard->ended.notify_all();
+  }
+
+  // The caller of the rest holds the lock.
+
+  // Opens this thread's reader, unless it is null. If there is no memory for it, the thread tries
+  // again with its next call.
+  static void open(Shard* shard, lru_reader* reader) noexcept {
+    if (reader != nullptr) lru_reader_new(&shard->clock, reader);
+  }
+
+  static void make_room(Shard* shard, std::uint64_t charge, Evicted* evicted) noexcept {
+    lru_left left;
+    while (lru_clock_make_room(&shard->clock, charge, &left) == LRU_GONE) {
+      evicted->add(node_of(left.value));
+    }
+  }
+
+  static void prune(Shard* shard, Evicted* evicted) noexcept {
+    lru_left left;
+    std::uint32_t next = 0;
+    while (lru_clock_prune(&shard->clock, &next, &left) == LRU_GONE) {
+      evicted->add(node_of(left.value));
+    }
+  }
+
+  static void collect(Shard* shard, std::uint32_t place, Evicted* evicted) noexcept {
+    lru_left left;
+    if (lru_clock_collect(&shard->clock, place, &left) == LRU_GONE) {
+      evicted->add(node_of(left.value));
+    }
+  }
+
+  static void unpin(Shard* shard, std::uint32_t place, Evicted* evicted) noexcept {
+    if (lru_reader_unpin(&shard->reader, place) == LRU_LAST) collect(shard, place, evicted);
+  }
+
+  // Takes a key's value away, and the making of one. Returns whether callers wait for that. The
+  // value is pinned meanwhile, which tells its node. Throws before anything has changed.
+  static bool detach(Shard* shard, const Hashed& key, Evicted* evicted) {
+    const lru_found found =
+        lru_clock_find(&shard->clock, key.hash, key.words.first, key.words.second);
+    if (found.code != LRU_HIT && found.code != LRU_MISSED) detail::throw_refusal(found.code);
+    if (found.code == LRU_HIT) node_of(found.value)->charge = 0;
+    lru_left left;
+    [[maybe_unused]] const lru_code code =
+        lru_clock_erase(&shard->clock, key.hash, key.words.first, key.words.second, &left);
+    assert(code == LRU_DONE);
+    if (found.code == LRU_HIT) unpin(shard, found.place, evicted);
+    Maker* const maker = making(*shard, key.words);
+    if (maker == nullptr) return false;
+    maker->is_detached_ = true;
+    return std::exchange(maker->is_awaited_, false);
+  }
+
+  // Calls `visit` with the node of each value that its key finds, which is pinned meanwhile.
+  template <class Visit>
+  static void visit(Shard* shard, Evicted* evicted, Visit visit) {
+    struct Pinned {
+      ~Pinned() { unpin(shard, place, evicted); }
+
+      Shard* shard;
+      std::uint32_t place;
+      Evicted* evicted;
+    };
+    const std::uint64_t places = lru_clock_places(&shard->clock).value;
+    for (std::uint32_t place = 0; place < places; place++) {
+      const lru_found found = lru_reader_pin_at(&shard->reader, place);
+      if (found.code == LRU_MISSED) continue;
+      if (found.code != LRU_HIT) detail::throw_refusal(found.code);
+      const Pinned pinned{shard, place, evicted};
+      if (node_of(found.value)->charge != 0) visit(*node_of(found.value));
+    }
+  }
+
+  // The maker of a key's value, for which others wait, or null.
+  static Maker* making(const Shard& shard, Words key) noexcept {
+    Maker* maker = shard.makers;
+    while (maker != nullptr && (maker->is_detached_ || maker->key_.words != key)) {
+      maker = maker->next_;
+    }
+    return maker;
+  }
+
+  void enlist(Maker* maker) const noexcept {
+    Shard& shard = shards_[maker->key_.shard];
+    maker->cache_ = this;
+    maker->place_ = &shard.makers;
+    maker->next_ = shard.makers;
+    if (shard.makers != nullptr) shard.makers->place_ = &maker->next_;
+    shard.makers = maker;
+  }
+  static void delist(Maker* maker) noexcept {
+    maker->cache_ = nullptr;
+    *maker->place_ = maker->next_;
+    if (maker->next_ != nullptr) maker->next_->place_ = maker->place_;
+  }
+
+  const Seed seed_;
+  const std::size_t count_;
+  const std::unique_ptr<Shard[]> shards_;
+  mutable detail::Lanes lanes_;
+};
+
+}  // namespace lru
+
+#endif

@@ -1,0 +1,1041 @@
+//! A cache whose hits take no lock.
+//!
+//! [`Cache`] has the names of [`sharded::LruCache`](crate::sharded::LruCache), and its threads do
+//! not wait for each other where they find values. It differs in these points:
+//!
+//! - Values are not evicted in the exact order of their last uses. A new one is on trial, and
+//!   leaves unless it is used. The others have up to three chances: a hit adds one, and a hand that
+//!   moves from value to value takes one away, and evicts a value that has none.
+//! - Keys are written as words ([`WordsKey`]): integers, pairs of them, and the like. The cache
+//!   hashes them by itself, so it takes no hasher.
+//! - Dropping a handle evicts nothing. If pinned values took the total above the capacity, the next
+//!   call that stores a value evicts down to it.
+//! - Values are evicted when a new one is stored, not when its making begins, and a value that is
+//!   being made does not count.
+//! - [`read`](Cache::read), [`retain`](Cache::retain) and [`for_each`](Cache::for_each) hold no
+//!   lock while they call back. `for_each` does not tell how many handles a value has, and may be
+//!   refused.
+//! - [`contains`](Cache::contains) counts as a use.
+//! - It has no strict limit, listener, counts of hits and misses, makers, tasks, room that is
+//!   reserved, `advice_evict` and `release_and_evict`.
+//!
+//! A cache has a reader of each shard for each thread that calls it, in 64 bytes for four shards.
+//! When a thread ends, its readers are left for another one. They are freed with the cache.
+//!
+//! # Examples
+//!
+//! ```
+//! use concurrent_lru_proved::clock::Cache;
+//! use std::thread;
+//!
+//! # fn main() -> Result<(), concurrent_lru_proved::Refusal> {
+//! // The keys are a file and a page of it.
+//! let pages = Cache::<(u32, u64), Vec<u8>>::new(1000)?;
+//! thread::scope(|scope| {
+//!     for _ in 0..4 {
+//!         scope.spawn(|| pages.get_or_init(&(1, 7), 1, |_| vec![0; 4096]).map(drop));
+//!     }
+//! });
+//! let page = pages.get(&(1, 7))?.expect("it is there");
+//! assert_eq!(page.len(), 4096);
+//! pages.invalidate(&(1, 7))?;
+//! assert!(pages.get(&(1, 7))?.is_none());
+//! assert_eq!(page.len(), 4096); // until the handle is dropped
+//! # Ok(())
+//! # }
+//! ```
+
+mod lanes;
+mod numbers;
+mod shard;
+
+use std::borrow::Borrow;
+use std::convert::Infallible;
+use std::fmt;
+use std::marker::PhantomData;
+use std::mem::ManuallyDrop;
+use std::num::NonZeroUsize;
+use std::ops::Deref;
+use std::sync::{Arc, MutexGuard};
+
+use crate::error::{self, GetError, Refusal};
+use crate::ffi;
+use crate::key::WordsKey;
+use crate::makings;
+use crate::proved::random_seed;
+use crate::sharded::{shards_for, share};
+
+use lanes::Lanes;
+use shard::{Left, Node, Pin, Route, Shard, State, Turn, told};
+
+/// A cache of heavy values that threads share, whose hits take no lock.
+///
+/// A [`CacheHandle`] pins its value: a pinned value is not evicted. A value without a handle is
+/// idle. Idle values are evicted to make room for a value that is stored, until the total of all
+/// charges is not above the capacity. Pinned values may take the total above the capacity.
+///
+/// Each shard has an equal share of the capacity, rounded up, and a lock, which every call takes
+/// that does not find a value. A value is evicted when its own shard is full. So if charges are
+/// larger than 1, choose the number of shards by [`shards_for`] and
+/// [`with_shards`](Self::with_shards).
+///
+/// No lock is held while values are made, read, visited or dropped. So `init` and `Drop` of a value
+/// may be slow, may panic, and may call the cache. But `init` must not ask for the key whose value
+/// it makes, and must not wait for another thread that does: it would wait for itself.
+///
+/// # Examples
+///
+/// ```
+/// use concurrent_lru_proved::clock::Cache;
+///
+/// # fn main() -> Result<(), concurrent_lru_proved::Refusal> {
+/// let cache = Cache::<u64, String>::new(1000)?;
+/// let handle = cache.get_or_init(&7, 1, |key| key.to_string())?;
+/// assert_eq!(*handle, "7");
+/// # Ok(())
+/// # }
+/// ```
+///
+/// A cache can be shared between threads only if its values can be shared and sent:
+///
+/// ```compile_fail,E0277
+/// use concurrent_lru_proved::clock::Cache;
+/// use std::cell::Cell;
+///
+/// fn share<T: Sync>(_: &T) {}
+///
+/// share(&Cache::<u64, Cell<u64>>::new(10).unwrap());
+/// ```
+///
+/// ```compile_fail,E0277
+/// use concurrent_lru_proved::clock::Cache;
+/// use std::sync::MutexGuard;
+///
+/// fn share<T: Sync>(_: &T) {}
+///
+/// share(&Cache::<u64, MutexGuard<'static, u64>>::new(10).unwrap());
+/// ```
+///
+/// Its keys are written as words:
+///
+/// ```compile_fail,E0277
+/// use concurrent_lru_proved::clock::Cache;
+///
+/// let cache = Cache::<String, u64>::new(10);
+/// ```
+pub struct Cache<K: WordsKey + ?Sized, V> {
+    // A hit reads these fields. They share no line with others, as `Lanes` has lines of its own.
+    lanes: Lanes,
+    shards: Box<[Shard<V>]>,
+    seed: u64,
+    keys: PhantomData<fn(&K)>,
+    // Threads that share a cache also share its values, through handles.
+    values: PhantomData<V>,
+}
+
+impl<K: WordsKey + ?Sized, V> Cache<K, V> {
+    /// Creates an empty cache with the number of shards that [`shards_for`] returns for charges of
+    /// 1: 16 from a capacity of 512 on, and less below. It stays the same if the capacity is set
+    /// later. Keys are hashed with a random seed.
+    ///
+    /// The type of the keys must be named, as in `Cache::<u64, _>::new(10)`: calls take any type
+    /// that it can be borrowed as, so it cannot be inferred from them.
+    ///
+    /// # Errors
+    ///
+    /// [`Refusal::Memory`] if there is no memory for the cache.
+    pub fn new(capacity: u64) -> Result<Self, Refusal> {
+        Self::with_shards(capacity, shards_for(capacity, 1))
+    }
+
+    /// Creates an empty cache with the given number of shards.
+    ///
+    /// # Errors
+    ///
+    /// [`Refusal::Memory`] if there is no memory for the cache.
+    pub fn with_shards(capacity: u64, shards: NonZeroUsize) -> Result<Self, Refusal> {
+        Self::with_seed(capacity, shards, random_seed())
+    }
+
+    /// Creates an empty cache with the given number of shards that hashes keys with the given seed,
+    /// for tests that must be the same in each run.
+    ///
+    /// Whoever knows the seed can choose keys whose hashes are all equal, so that each look-up of
+    /// such a key visits all of them.
+    ///
+    /// # Errors
+    ///
+    /// [`Refusal::Memory`] if there is no memory for the cache.
+    pub fn with_seed(capacity: u64, shards: NonZeroUsize, seed: u64) -> Result<Self, Refusal> {
+        let count = shards.get();
+        let share = share(capacity, count);
+        let mut shards = Vec::new();
+        error::room(shards.try_reserve_exact(count))?;
+        for _ in 0..count {
+            shards.push(Shard::new(share)?);
+        }
+        Ok(Cache {
+            lanes: Lanes::new(count),
+            shards: shards.into_boxed_slice(),
+            seed,
+            keys: PhantomData,
+            values: PhantomData,
+        })
+    }
+
+    /// Returns a handle of the key's value, or `None` if there is no value or it is still being
+    /// made. Does not wait for a value that is being made. A hit takes no lock; a miss looks once
+    /// more with the lock of the shard.
+    ///
+    /// # Errors
+    ///
+    /// [`Refusal::Overflow`] if the value has about a billion handles.
+    #[inline]
+    pub fn get<Q>(&self, key: &Q) -> Result<Option<CacheHandle<'_, K, V>>, Refusal>
+    where
+        K: Borrow<Q>,
+        Q: WordsKey<Form = K::Form> + ?Sized,
+    {
+        let route = self.route(key);
+        match self.look(route) {
+            Ok(pin) => Ok(Some(self.handle(route.shard, pin))),
+            Err(code) => self.look_again(route, code),
+        }
+    }
+
+    /// Calls `reader` with the key's value, and returns its result, or `None` if there is no value
+    /// or it is still being made. No lock is held meanwhile: this is a [`get`](Self::get) whose
+    /// handle is dropped at the end.
+    ///
+    /// # Errors
+    ///
+    /// As [`get`](Self::get).
+    ///
+    /// # Examples
+    ///
+    /// ```
+    /// use concurrent_lru_proved::clock::Cache;
+    ///
+    /// # fn main() -> Result<(), concurrent_lru_proved::Refusal> {
+    /// let cache = Cache::<u64, String>::new(10)?;
+    /// cache.insert(&7, 1, "seven".to_string())?;
+    /// assert_eq!(cache.read(&7, |value| value.len())?, Some(5));
+    /// assert_eq!(cache.read(&8, |value| value.len())?, None);
+    /// # Ok(())
+    /// # }
+    /// ```
+    pub fn read<Q, T>(&self, key: &Q, reader: impl FnOnce(&V) -> T) -> Result<Option<T>, Refusal>
+    where
+        K: Borrow<Q>,
+        Q: WordsKey<Form = K::Form> + ?Sized,
+    {
+        Ok(self.get(key)?.map(|handle| reader(&handle)))
+    }
+
+    /// Returns a handle of the key's value. If there is none, `init` makes it.
+    ///
+    /// Only one caller at a time makes a key's value; the others wait for it. If `init` panics and
+    /// others are waiting, one of them makes the value, with its own `init`. If the key is
+    /// invalidated meanwhile, or gets another value, only this caller gets the value that it made.
+    ///
+    /// `charge` is what the value counts for against the capacity, in units of the caller's choice;
+    /// it must be above 0, even if the key has a value. If the value exists already, its charge
+    /// does not change.
+    ///
+    /// # Errors
+    ///
+    /// [`Refusal::ZeroCharge`] if `charge` is 0, even if the key has a value. [`Refusal::Overflow`]
+    /// if the total of the charges of the shard would exceed `u64::MAX`, or if the value has about
+    /// a billion handles. [`Refusal::Memory`] if there is no memory for a new entry. In these cases
+    /// no value is stored. If `init` has run, its value is dropped, and others may have been
+    /// evicted for it.
+    #[inline]
+    pub fn get_or_init<Q>(
+        &self,
+        key: &Q,
+        charge: u64,
+        init: impl FnOnce(&Q) -> V,
+    ) -> Result<CacheHandle<'_, K, V>, Refusal>
+    where
+        K: Borrow<Q>,
+        Q: WordsKey<Form = K::Form> + ?Sized,
+    {
+        self.get_or_try_init(key, charge, |key| Ok::<_, Infallible>(init(key)))
+            .map_err(|error| match error {
+                GetError::Init(never) => match never {},
+                GetError::Refused(refusal) => refusal,
+            })
+    }
+
+    /// Returns a handle of the key's value. If there is none, `init` makes it, or fails.
+    ///
+    /// This is [`get_or_init`](Self::get_or_init) for an `init` that may fail. The cache keeps no
+    /// entry then. If others are waiting, one of them makes the value, with its own `init`.
+    ///
+    /// # Errors
+    ///
+    /// [`GetError::Init`] with the error of `init`, and [`GetError::Refused`] in the cases of
+    /// [`get_or_init`](Self::get_or_init).
+    #[inline]
+    pub fn get_or_try_init<Q, E>(
+        &self,
+        key: &Q,
+        charge: u64,
+        init: impl FnOnce(&Q) -> Result<V, E>,
+    ) -> Result<CacheHandle<'_, K, V>, GetError<E>>
+    where
+        K: Borrow<Q>,
+        Q: WordsKey<Form = K::Form> + ?Sized,
+    {
+        match self.begin(self.route(key), charge)? {
+            Begun::Hit(handle) => Ok(handle),
+            Begun::Make(maker) => Ok(maker.ready(init(key).map_err(GetError::Init)?)?),
+        }
+    }
+
+    /// Returns what [`get`](Self::get) returns, with a handle that borrows nothing and keeps the
+    /// cache alive.
+    ///
+    /// # Errors
+    ///
+    /// As [`get`](Self::get).
+    ///
+    /// # Examples
+    ///
+    /// ```
+    /// use concurrent_lru_proved::clock::Cache;
+    /// use std::sync::Arc;
+    ///
+    /// # fn main() -> Result<(), concurrent_lru_proved::Refusal> {
+    /// let cache = Arc::new(Cache::<u64, String>::new(10)?);
+    /// cache.insert(&7, 1, "seven".to_string())?;
+    /// let handle = cache.get_owned(&7)?.expect("it was inserted");
+    /// drop(cache);
+    /// assert_eq!(*handle, "seven");
+    /// # Ok(())
+    /// # }
+    /// ```
+    pub fn get_owned<Q>(self: &Arc<Self>, key: &Q) -> Result<Option<OwnedHandle<K, V>>, Refusal>
+    where
+        K: Borrow<Q>,
+        Q: WordsKey<Form = K::Form> + ?Sized,
+    {
+        let found = self.get(key)?;
+        Ok(found.map(|handle| OwnedHandle::of(self, handle)))
+    }
+
+    /// Returns what [`get_or_init`](Self::get_or_init) returns, with a handle that borrows nothing
+    /// and keeps the cache alive.
+    ///
+    /// # Errors
+    ///
+    /// As [`get_or_init`](Self::get_or_init).
+    pub fn get_or_init_owned<Q>(
+        self: &Arc<Self>,
+        key: &Q,
+        charge: u64,
+        init: impl FnOnce(&Q) -> V,
+    ) -> Result<OwnedHandle<K, V>, Refusal>
+    where
+        K: Borrow<Q>,
+        Q: WordsKey<Form = K::Form> + ?Sized,
+    {
+        let handle = self.get_or_init(key, charge, init)?;
+        Ok(OwnedHandle::of(self, handle))
+    }
+
+    /// Returns what [`get_or_try_init`](Self::get_or_try_init) returns, with a handle that borrows
+    /// nothing and keeps the cache alive.
+    ///
+    /// # Errors
+    ///
+    /// As [`get_or_try_init`](Self::get_or_try_init).
+    pub fn get_or_try_init_owned<Q, E>(
+        self: &Arc<Self>,
+        key: &Q,
+        charge: u64,
+        init: impl FnOnce(&Q) -> Result<V, E>,
+    ) -> Result<OwnedHandle<K, V>, GetError<E>>
+    where
+        K: Borrow<Q>,
+        Q: WordsKey<Form = K::Form> + ?Sized,
+    {
+        let handle = self.get_or_try_init(key, charge, init)?;
+        Ok(OwnedHandle::of(self, handle))
+    }
+
+    /// Makes `value` the key's value, whatever the key had, and returns a handle of it. Does not
+    /// wait for a value that is being made: only its maker gets that one.
+    ///
+    /// Handles of the old value keep it, and it counts against the capacity, until the last of them
+    /// is dropped.
+    ///
+    /// # Errors
+    ///
+    /// [`Refusal::ZeroCharge`] if `charge` is 0. [`Refusal::Overflow`] if the total of the charges
+    /// of the shard, with the old value, would exceed `u64::MAX`. The key keeps its old value then.
+    /// [`Refusal::Memory`] if there is no memory for a new entry. The key has no value then, and
+    /// values may have been evicted. The new value is dropped in each case.
+    ///
+    /// # Examples
+    ///
+    /// ```
+    /// use concurrent_lru_proved::clock::Cache;
+    ///
+    /// # fn main() -> Result<(), concurrent_lru_proved::Refusal> {
+    /// let cache = Cache::<u64, u32>::new(10)?;
+    /// let old = cache.insert(&7, 1, 5)?;
+    /// let new = cache.insert(&7, 1, 6)?;
+    /// assert_eq!((*old, *new), (5, 6));
+    /// assert_eq!(cache.get(&7)?.as_deref(), Some(&6));
+    /// # Ok(())
+    /// # }
+    /// ```
+    pub fn insert<Q>(
+        &self,
+        key: &Q,
+        charge: u64,
+        value: V,
+    ) -> Result<CacheHandle<'_, K, V>, Refusal>
+    where
+        K: Borrow<Q>,
+        Q: WordsKey<Form = K::Form> + ?Sized,
+    {
+        if charge == 0 {
+            return Err(Refusal::ZeroCharge);
+        }
+        let route = self.route(key);
+        let node = Node::new(route.key, charge, value);
+        let mut left = Left::new();
+        let shard = &self.shards[route.shard];
+        let mut state = shard.lock();
+        let (inserted, is_awaited) = state.insert(route, node, &mut left);
+        shard.unlock(state, is_awaited);
+        let handle = self.handle(route.shard, inserted?);
+        // If the drop of a value panics, the handle is dropped too. It would be leaked if it were
+        // the return value already.
+        drop(left);
+        Ok(handle)
+    }
+
+    /// Returns whether the key has a value, as [`get`](Self::get) looks for it. Takes the lock of
+    /// the shard, and counts as a use.
+    ///
+    /// # Errors
+    ///
+    /// As [`get`](Self::get).
+    pub fn contains<Q>(&self, key: &Q) -> Result<bool, Refusal>
+    where
+        K: Borrow<Q>,
+        Q: WordsKey<Form = K::Form> + ?Sized,
+    {
+        let route = self.route(key);
+        let mut left = Left::new();
+        let mut state = self.shards[route.shard].lock();
+        let found = state.find(route)?;
+        if let Some(pin) = found {
+            state.unpin(pin.place, &mut left);
+        }
+        drop(state);
+        Ok(found.is_some())
+    }
+
+    /// Takes the key's value away: the next caller that asks for the key makes a new one, even if
+    /// one is being made. Handles of the old value keep it, as with [`insert`](Self::insert).
+    ///
+    /// # Errors
+    ///
+    /// None: this call is never refused.
+    pub fn invalidate<Q>(&self, key: &Q) -> Result<(), Refusal>
+    where
+        K: Borrow<Q>,
+        Q: WordsKey<Form = K::Form> + ?Sized,
+    {
+        self.erase_if(self.route(key), || true);
+        Ok(())
+    }
+
+    /// Evicts every idle value, one shard after another.
+    pub fn prune(&self) {
+        for shard in &self.shards {
+            let mut left = Left::new();
+            shard.lock().prune(&mut left);
+        }
+    }
+
+    /// Takes the value of every key away, as [`invalidate`](Self::invalidate) does for one key, one
+    /// shard after another. What other threads insert meanwhile may stay.
+    ///
+    /// # Errors
+    ///
+    /// [`Refusal::Overflow`] if a value has about a billion handles. Other values have left then.
+    ///
+    /// # Examples
+    ///
+    /// ```
+    /// use concurrent_lru_proved::clock::Cache;
+    ///
+    /// # fn main() -> Result<(), concurrent_lru_proved::Refusal> {
+    /// let cache = Cache::<u64, &str>::new(10)?;
+    /// let seven = cache.insert(&7, 1, "seven")?;
+    /// cache.insert(&8, 1, "eight")?;
+    /// cache.clear()?;
+    /// assert!(!cache.contains(&7)? && !cache.contains(&8)?);
+    /// assert_eq!((*seven, cache.len()), ("seven", 1));
+    /// # Ok(())
+    /// # }
+    /// ```
+    pub fn clear(&self) -> Result<(), Refusal> {
+        self.shards.iter().try_for_each(|shard| {
+            let mut left = Left::new();
+            let mut state = shard.lock();
+            let (cleared, is_awaited) = state.clear(self.seed, self.shards.len(), &mut left);
+            shard.unlock(state, is_awaited);
+            cleared
+        })
+    }
+
+    /// Takes the values away, as [`invalidate`](Self::invalidate) does, for which `keep` returns
+    /// `false`. It is called with each key, as it is written, each value and its charge, in no
+    /// particular order. Values that are being made stay, and those that other threads insert
+    /// meanwhile may stay.
+    ///
+    /// No lock is held while `keep` runs, and the value is pinned, so `keep` may call the cache. If
+    /// it panics, the values have left for which it has returned `false`.
+    ///
+    /// # Errors
+    ///
+    /// [`Refusal::Overflow`] if a value has about a billion handles. Other values have left then.
+    ///
+    /// # Examples
+    ///
+    /// ```
+    /// use concurrent_lru_proved::clock::Cache;
+    ///
+    /// # fn main() -> Result<(), concurrent_lru_proved::Refusal> {
+    /// // The keys are a file and a page of it.
+    /// let pages = Cache::<(u32, u64), &str>::new(100)?;
+    /// pages.insert(&(1, 7), 1, "a page")?;
+    /// pages.insert(&(2, 7), 1, "a page of another file")?;
+    /// pages.retain(|[file, _], _, _| file != 1)?;
+    /// assert!(!pages.contains(&(1, 7))? && pages.contains(&(2, 7))?);
+    /// # Ok(())
+    /// # }
+    /// ```
+    pub fn retain(&self, mut keep: impl FnMut([u64; 2], &V, u64) -> bool) -> Result<(), Refusal> {
+        self.visit(|handle| {
+            let node = handle.node();
+            if !keep(node.key, &node.value, node.charge) {
+                let route = Route::new(node.key, self.seed, self.shards.len());
+                self.erase_if(route, || node.is_listed());
+            }
+        })
+    }
+
+    /// Calls `visit` for each value that its key finds, in no particular order. Values that are
+    /// being made are left out, and so are those that were invalidated or replaced; those that
+    /// other threads insert meanwhile may be. This is no use of a value.
+    ///
+    /// No lock is held while `visit` runs, and the value is pinned, so `visit` may call the cache.
+    ///
+    /// # Errors
+    ///
+    /// [`Refusal::Overflow`] if a value has about a billion handles. Other values have been visited
+    /// then.
+    ///
+    /// # Examples
+    ///
+    /// ```
+    /// use concurrent_lru_proved::clock::Cache;
+    ///
+    /// # fn main() -> Result<(), concurrent_lru_proved::Refusal> {
+    /// let cache = Cache::<u64, &str>::new(10)?;
+    /// cache.insert(&7, 3, "seven")?;
+    /// let mut all = Vec::new();
+    /// cache.for_each(|entry| {
+    ///     let [_, key] = entry.key;
+    ///     all.push((key, *entry.value, entry.charge));
+    /// })?;
+    /// assert_eq!(all, [(7, "seven", 3)]);
+    /// # Ok(())
+    /// # }
+    /// ```
+    pub fn for_each(&self, mut visit: impl FnMut(EntryRef<'_, V>)) -> Result<(), Refusal> {
+        self.visit(|handle| {
+            let node = handle.node();
+            visit(EntryRef {
+                key: node.key,
+                value: &node.value,
+                charge: node.charge,
+            });
+        })
+    }
+
+    /// Returns the number of values, including those that were invalidated or replaced and still
+    /// have a handle, but not those that are being made. The shards are read one after another, so
+    /// it is no snapshot if other threads call the cache.
+    pub fn len(&self) -> u64 {
+        self.shards.iter().map(|shard| shard.lock().len()).sum()
+    }
+
+    /// Returns whether [`len`](Self::len) is 0.
+    pub fn is_empty(&self) -> bool {
+        self.len() == 0
+    }
+
+    /// Returns the total of the charges of these values. No snapshot, as [`len`](Self::len).
+    pub fn total_charge(&self) -> u128 {
+        let totals = self.shards.iter().map(|shard| shard.lock().total());
+        totals.map(u128::from).sum()
+    }
+
+    /// Returns the total of the charges of the values that have a handle. Visits all values. No
+    /// snapshot, as [`len`](Self::len).
+    pub fn pinned_charge(&self) -> u128 {
+        let charges = self.shards.iter().map(|shard| shard.lock().pinned_charge());
+        charges.map(u128::from).sum()
+    }
+
+    /// Returns the total of the capacities of all shards. Rounding may make it more than the
+    /// capacity that was set.
+    pub fn capacity(&self) -> u128 {
+        let capacities = self.shards.iter().map(|shard| shard.lock().capacity());
+        capacities.map(u128::from).sum()
+    }
+
+    /// Sets the capacity, of which each shard gets an equal share, rounded up. Idle values that
+    /// exceed it are evicted at once.
+    pub fn set_capacity(&self, capacity: u64) {
+        let share = share(capacity, self.shards.len());
+        for shard in &self.shards {
+            let mut left = Left::new();
+            shard.lock().set_capacity(share, &mut left);
+        }
+    }
+
+    #[inline]
+    fn route<Q: WordsKey + ?Sized>(&self, key: &Q) -> Route {
+        Route::new(key.words(), self.seed, self.shards.len())
+    }
+
+    fn handle(&self, shard: usize, pin: Pin<V>) -> CacheHandle<'_, K, V> {
+        CacheHandle {
+            cache: self,
+            shard,
+            pin,
+        }
+    }
+
+    /// Pins the value of a key without the lock. Returns another code than that of a hit.
+    #[inline]
+    fn look(&self, route: Route) -> Result<Pin<V>, u32> {
+        let Some(reader) = self.lanes.reader(route.shard) else {
+            return Err(ffi::CLOSED);
+        };
+        let [first, second] = route.key;
+        // SAFETY: only this thread uses the reader.
+        let found = unsafe { ffi::lru_reader_pin(reader, route.hash, first, second) };
+        match found.code {
+            ffi::HIT => Ok(Pin::of(found)),
+            code => Err(code),
+        }
+    }
+
+    /// Locks a shard after a call with a reader was told this code. If the reader is not open,
+    /// opens it.
+    fn lock_after(&self, code: u32, shard: usize) -> MutexGuard<'_, State<V>> {
+        let reader = match code {
+            ffi::CLOSED => self.lanes.make(shard),
+            _ => None,
+        };
+        let mut state = self.shards[shard].lock();
+        if let Some(reader) = reader {
+            state.open(reader);
+        }
+        state
+    }
+
+    /// Pins the value of a key with the lock, after a look without it was told this code: it may
+    /// have missed a value that is there.
+    #[cold]
+    fn look_again(
+        &self,
+        route: Route,
+        code: u32,
+    ) -> Result<Option<CacheHandle<'_, K, V>>, Refusal> {
+        let found = self.lock_after(code, route.shard).find(route)?;
+        Ok(found.map(|pin| self.handle(route.shard, pin)))
+    }
+
+    /// Pins the value of a key, or begins to make it. Waits while another caller makes it.
+    #[inline]
+    fn begin(&self, route: Route, charge: u64) -> Result<Begun<'_, K, V>, Refusal> {
+        if charge == 0 {
+            return Err(Refusal::ZeroCharge);
+        }
+        match self.look(route) {
+            Ok(pin) => Ok(Begun::Hit(self.handle(route.shard, pin))),
+            Err(code) => self.begin_locked(route, charge, code),
+        }
+    }
+
+    #[cold]
+    fn begin_locked(
+        &self,
+        route: Route,
+        charge: u64,
+        code: u32,
+    ) -> Result<Begun<'_, K, V>, Refusal> {
+        let mut state = self.lock_after(code, route.shard);
+        loop {
+            match state.begin(route, charge)? {
+                Turn::Hit(pin) => return Ok(Begun::Hit(self.handle(route.shard, pin))),
+                Turn::Make(ticket) => {
+                    return Ok(Begun::Make(Maker {
+                        cache: self,
+                        route,
+                        charge,
+                        ticket,
+                    }));
+                }
+                Turn::Wait(ticket) => state = self.shards[route.shard].wait(state, ticket),
+            }
+        }
+    }
+
+    /// Invalidates a key if this is so when the lock is held.
+    fn erase_if(&self, route: Route, is_so: impl FnOnce() -> bool) {
+        let mut left = Left::new();
+        let shard = &self.shards[route.shard];
+        let mut state = shard.lock();
+        let is_awaited = is_so() && state.erase(route, &mut left);
+        shard.unlock(state, is_awaited);
+    }
+
+    /// Calls `visit` with a handle of each value that its key finds.
+    fn visit(&self, mut visit: impl FnMut(&CacheHandle<'_, K, V>)) -> Result<(), Refusal> {
+        for (shard, locked) in self.shards.iter().enumerate() {
+            let places = locked.lock().places();
+            for place in 0..places {
+                if let Some(handle) = self.pin_at(shard, place)? {
+                    if handle.node().is_listed() {
+                        visit(&handle);
+                    }
+                }
+            }
+        }
+        Ok(())
+    }
+
+    /// Pins the value at a place.
+    fn pin_at(&self, shard: usize, place: u32) -> Result<Option<CacheHandle<'_, K, V>>, Refusal> {
+        let mut found = ffi::Found::CLOSED;
+        if let Some(reader) = self.lanes.reader(shard) {
+            // SAFETY: only this thread uses the reader.
+            found = unsafe { ffi::lru_reader_pin_at(reader, place) };
+        }
+        if found.code == ffi::CLOSED {
+            found = self.lock_after(found.code, shard).pin_at(place);
+        }
+        Ok(told(found)?.map(|pin| self.handle(shard, pin)))
+    }
+
+    /// Pins the value of a handle once more.
+    fn pin_again(&self, shard: usize, pin: Pin<V>) -> Result<CacheHandle<'_, K, V>, Refusal> {
+        match self.pin_at(shard, pin.place)? {
+            Some(handle) => Ok(handle),
+            None => unreachable!("the value is pinned"),
+        }
+    }
+
+    /// Gives back the pin of a handle, which is not used again.
+    #[inline]
+    fn unpin(&self, shard: usize, place: u32) {
+        let mut code = ffi::CLOSED;
+        if let Some(reader) = self.lanes.reader(shard) {
+            // SAFETY: only this thread uses the reader.
+            code = unsafe { ffi::lru_reader_unpin(reader, place) };
+        }
+        if code != ffi::DONE {
+            self.unpin_locked(shard, place, code);
+        }
+    }
+
+    /// Does with the lock what is left to do after the reader was told this code.
+    #[cold]
+    fn unpin_locked(&self, shard: usize, place: u32, code: u32) {
+        let mut left = Left::new();
+        // The lock is released at the end of each statement, before the value is dropped.
+        if code == ffi::LAST {
+            self.shards[shard].lock().collect(place, &mut left);
+        } else {
+            debug_assert_eq!(code, ffi::CLOSED);
+            self.lock_after(code, shard).unpin(place, &mut left);
+        }
+    }
+}
+
+impl<K: WordsKey + ?Sized, V> fmt::Debug for Cache<K, V> {
+    fn fmt(&self, f: &mut fmt::Formatter<'_>) -> fmt::Result {
+        f.debug_struct("Cache")
+            .field("capacity", &self.capacity())
+            .field("total_charge", &self.total_charge())
+            .finish_non_exhaustive()
+    }
+}
+
+/// A value of a cache by reference, with its key. [`Cache::for_each`] passes one for each value.
+#[derive(Debug, Clone, Copy, PartialEq, Eq)]
+#[non_exhaustive]
+pub struct EntryRef<'a, V> {
+    /// The key, as it is [written](crate::key::Key::written). A number is the second word.
+    pub key: [u64; 2],
+    /// The value.
+    pub value: &'a V,
+    /// What the value counts for against the capacity.
+    pub charge: u64,
+}
+
+type Begun<'a, K, V> = makings::Begun<CacheHandle<'a, K, V>, Maker<'a, K, V>>;
+
+/// The duty to make a value. If it is dropped, the making has failed.
+struct Maker<'a, K: WordsKey + ?Sized, V> {
+    cache: &'a Cache<K, V>,
+    route: Route,
+    charge: u64,
+    ticket: u64,
+}
+
+impl<'a, K: WordsKey + ?Sized, V> Maker<'a, K, V> {
+    /// Stores the value, and wakes those that wait for it.
+    fn ready(self, value: V) -> Result<CacheHandle<'a, K, V>, Refusal> {
+        let this = ManuallyDrop::new(self);
+        let node = Node::new(this.route.key, this.charge, value);
+        let mut left = Left::new();
+        let shard = &this.cache.shards[this.route.shard];
+        let mut state = shard.lock();
+        let (made, is_awaited) = state.ready(this.route, this.ticket, node, &mut left);
+        shard.unlock(state, is_awaited);
+        let handle = this.cache.handle(this.route.shard, made?);
+        // As in `insert`.
+        drop(left);
+        Ok(handle)
+    }
+}
+
+impl<K: WordsKey + ?Sized, V> Drop for Maker<'_, K, V> {
+    fn drop(&mut self) {
+        let shard = &self.cache.shards[self.route.shard];
+        let mut state = shard.lock();
+        let is_awaited = state.fail(self.ticket);
+        shard.unlock(state, is_awaited);
+    }
+}
+
+/// A pinned value: it is not evicted while the handle lives.
+///
+/// Without its last handle the value is idle. If a handle is forgotten, its value stays until the
+/// cache is dropped.
+pub struct CacheHandle<'a, K: WordsKey + ?Sized, V> {
+    cache: &'a Cache<K, V>,
+    /// The number of the shard that has the entry.
+    shard: usize,
+    pin: Pin<V>,
+}
+
+// SAFETY: a handle gives shared access to its value, and dropping it may drop values of the cache.
+// Both are sound on any thread if values are `Sync` and `Send`.
+unsafe impl<K: WordsKey + ?Sized, V: Send + Sync> Send for CacheHandle<'_, K, V> {}
+
+// SAFETY: a shared handle gives shared access to its value only.
+unsafe impl<K: WordsKey + ?Sized, V: Send + Sync> Sync for CacheHandle<'_, K, V> {}
+
+impl<K: WordsKey + ?Sized, V> CacheHandle<'_, K, V> {
+    /// Returns the value.
+    pub fn value(&self) -> &V {
+        &self.node().value
+    }
+
+    /// Returns another handle of the same value, even if the key has another value by now, or none.
+    /// No key is looked up, and it takes no lock.
+    ///
+    /// Handles do not implement [`Clone`], as `clone` could only panic if the cache refuses. If the
+    /// type of the value has a `try_clone` too, as [`File`](std::fs::File) has, call that one by
+    /// `handle.value().try_clone()`.
+    ///
+    /// # Errors
+    ///
+    /// [`Refusal::Overflow`] if the value has about a billion handles: in practice, only if handles
+    /// are forgotten, as by [`mem::forget`](std::mem::forget).
+    ///
+    /// # Examples
+    ///
+    /// ```
+    /// use concurrent_lru_proved::clock::Cache;
+    ///
+    /// # fn main() -> Result<(), concurrent_lru_proved::Refusal> {
+    /// let cache = Cache::<u64, String>::new(10)?;
+    /// let handle = cache.insert(&7, 1, "seven".to_string())?;
+    /// cache.invalidate(&7)?;
+    /// let clone = handle.try_clone()?;
+    /// drop(handle);
+    /// assert_eq!(*clone, "seven");
+    /// # Ok(())
+    /// # }
+    /// ```
+    pub fn try_clone(&self) -> Result<Self, Refusal> {
+        self.cache.pin_again(self.shard, self.pin)
+    }
+
+    fn node(&self) -> &Node<V> {
+        // SAFETY: the handle has a pin of the entry, so its node is not dropped before the handle
+        // is. Nothing has mutable access to a node in the cache.
+        unsafe { self.pin.node.as_ref() }
+    }
+}
+
+impl<K: WordsKey + ?Sized, V> Deref for CacheHandle<'_, K, V> {
+    type Target = V;
+
+    fn deref(&self) -> &V {
+        self.value()
+    }
+}
+
+impl<K: WordsKey + ?Sized, V: fmt::Debug> fmt::Debug for CacheHandle<'_, K, V> {
+    fn fmt(&self, f: &mut fmt::Formatter<'_>) -> fmt::Result {
+        f.debug_tuple("CacheHandle").field(self.value()).finish()
+    }
+}
+
+impl<K: WordsKey + ?Sized, V> Drop for CacheHandle<'_, K, V> {
+    #[inline]
+    fn drop(&mut self) {
+        self.cache.unpin(self.shard, self.pin.place);
+    }
+}
+
+/// A pinned value, as [`CacheHandle`], with a handle that borrows nothing and keeps its cache
+/// alive.
+///
+/// Calls such as [`Cache::get_owned`] return it for a cache in an [`Arc`]. If a value of the cache
+/// has such a handle of the same cache, neither is ever dropped.
+pub struct OwnedHandle<K: WordsKey + ?Sized, V> {
+    cache: Arc<Cache<K, V>>,
+    /// The number of the shard that has the entry.
+    shard: usize,
+    pin: Pin<V>,
+}
+
+// SAFETY: as for `CacheHandle`. Dropping the handle may also drop the cache, which may move to
+// another thread if its values may.
+unsafe impl<K: WordsKey + ?Sized, V: Send + Sync> Send for OwnedHandle<K, V> {}
+
+// SAFETY: a shared handle gives shared access to its value only.
+unsafe impl<K: WordsKey + ?Sized, V: Send + Sync> Sync for OwnedHandle<K, V> {}
+
+impl<K: WordsKey + ?Sized, V> OwnedHandle<K, V> {
+    /// Takes over the pin of a handle of this cache.
+    fn of(cache: &Arc<Cache<K, V>>, handle: CacheHandle<'_, K, V>) -> OwnedHandle<K, V> {
+        let handle = ManuallyDrop::new(handle);
+        OwnedHandle {
+            cache: Arc::clone(cache),
+            shard: handle.shard,
+            pin: handle.pin,
+        }
+    }
+
+    /// Returns the value.
+    pub fn value(&self) -> &V {
+        // SAFETY: the handle has a pin of the entry and keeps the cache alive, so its node is not
+        // dropped before the handle is. Nothing has mutable access to a node in the cache.
+        let node = unsafe { self.pin.node.as_ref() };
+        &node.value
+    }
+
+    /// Returns another handle of the same value, as [`CacheHandle::try_clone`] does, which keeps
+    /// the cache alive too.
+    ///
+    /// # Errors
+    ///
+    /// As [`CacheHandle::try_clone`].
+    pub fn try_clone(&self) -> Result<Self, Refusal> {
+        let handle = self.cache.pin_again(self.shard, self.pin)?;
+        Ok(OwnedHandle::of(&self.cache, handle))
+    }
+}
+
+impl<K: WordsKey + ?Sized, V> Deref for OwnedHandle<K, V> {
+    type Target = V;
+
+    fn deref(&self) -> &V {
+        self.value()
+    }
+}
+
+impl<K: WordsKey + ?Sized, V: fmt::Debug> fmt::Debug for OwnedHandle<K, V> {
+    fn fmt(&self, f: &mut fmt::Formatter<'_>) -> fmt::Result {
+        f.debug_tuple("OwnedHandle").field(self.value()).finish()
+    }
+}
+
+impl<K: WordsKey + ?Sized, V> Drop for OwnedHandle<K, V> {
+    fn drop(&mut self) {
+        self.cache.unpin(self.shard, self.pin.place);
+    }
+}
+
+#[cfg(test)]
+mod tests {
+    use std::mem::ManuallyDrop;
+    use std::num::NonZeroUsize;
+    use std::sync::{Barrier, mpsc};
+    use std::thread;
+    use std::time::Duration;
+
+    use super::Cache;
+    use crate::error::Refusal;
+
+    #[test]
+    fn hits_clones_and_drops_take_no_lock() -> Result<(), Refusal> {
+        let cache = Cache::<u64, u64>::with_shards(10, NonZeroUsize::MIN)?;
+        cache.insert(&1, 1, 10)?;
+        let (is_open, is_locked) = (Barrier::new(2), Barrier::new(2));
+        let (sender, done) = mpsc::channel();
+        thread::scope(|scope| {
+            scope.spawn(|| {
+                // The first call opens the reader of the thread.
+                let opened = cache.get(&1).map(drop);
+                is_open.wait();
+                is_locked.wait();
+                let found = cache.get(&1).ok().flatten();
+                let clone = found.as_ref().map(|handle| handle.try_clone());
+                let hit = cache.get_or_init(&1, 1, |_| 11).map(|handle| *handle);
+                let clone = clone.and_then(|clone| clone.ok().map(|handle| *handle));
+                let _ = sender.send((opened, clone, hit));
+            });
+            is_open.wait();
+            let locked = cache.shards[0].lock();
+            is_locked.wait();
+            let told = done.recv_timeout(Duration::from_secs(60));
+            drop(locked);
+            assert_eq!(told, Ok((Ok(()), Some(10), Ok(10))));
+        });
+        Ok(())
+    }
+    #[test]
+    fn what_a_reader_misses_is_found_with_the_lock() -> Result<(), Refusal> {
+        let cache = Cache::<u64, u64>::with_shards(10, NonZeroUsize::MIN)?;
+        let empty = Cache::<u64, u64>::with_shards(10, NonZeroUsize::MIN)?;
+        // A reader of another clock misses everything, as a reader seldom does.
+        let reader = cache.lanes.make(0).ok_or(Refusal::Memory)?;
+        empty.shards[0].lock().open(reader);
+        // The handles are not dropped, as this reader has not their pins.
+        let inserted = ManuallyDrop::new(cache.insert(&1, 1, 10)?);
+        let found = ManuallyDrop::new(cache.get(&1)?);
+        let hit = ManuallyDrop::new(cache.get_or_init(&1, 1, |_| 11)?);
+        assert_eq!((**inserted, found.as_deref(), **hit), (10, Some(&10), 10));
+        assert!(cache.get(&2)?.is_none());
+        Ok(())
+    }
+}

@@ -1,0 +1,507 @@
+//! A shard: a clock of the library behind a lock, with values in boxes.
+
+use std::marker::PhantomData;
+use std::ptr::NonNull;
+use std::sync::atomic::{AtomicBool, Ordering};
+use std::sync::{Condvar, Mutex, MutexGuard};
+
+use crate::error::{self, Refusal};
+use crate::ffi::{self, Found, Handle};
+use crate::hash::hash_of_words;
+use crate::proved::{done, refusal, value_of, word_of};
+use crate::unsharded::unpoisoned;
+
+/// A value with what a visit of all values shows of it. The library stores the address of a node,
+/// and owns it from `add` or `ready` until it tells that the entry has left.
+pub(super) struct Node<V> {
+    pub(super) value: V,
+    pub(super) key: [u64; 2],
+    pub(super) charge: u64,
+    /// Whether the key finds it. Written with the lock of the shard held.
+    is_listed: AtomicBool,
+    /// The next node in a list of those that left.
+    next: Option<Box<Node<V>>>,
+}
+
+impl<V> Node<V> {
+    pub(super) fn new(key: [u64; 2], charge: u64, value: V) -> Box<Node<V>> {
+        Box::new(Node {
+            value,
+            key,
+            charge,
+            is_listed: AtomicBool::new(true),
+            next: None,
+        })
+    }
+
+    /// Whether the key finds it. It may cease to meanwhile, unless the caller has the lock.
+    pub(super) fn is_listed(&self) -> bool {
+        self.is_listed.load(Ordering::Relaxed)
+    }
+
+    fn unlist(&self) {
+        self.is_listed.store(false, Ordering::Relaxed);
+    }
+}
+
+/// The nodes of entries that left. They must be dropped after the lock is released.
+pub(super) struct Left<V>(Option<Box<Node<V>>>);
+
+impl<V> Left<V> {
+    pub(super) fn new() -> Left<V> {
+        Left(None)
+    }
+
+    /// Takes over the node of an entry that left.
+    fn take(&mut self, left: ffi::Left) {
+        // SAFETY: the word is the address of a box that `add` or `ready` stored. The library tells
+        // each word once, and only when its entry has no pin.
+        let node = unsafe { Box::from_raw(value_of(left.value).as_ptr()) };
+        self.push(node);
+    }
+
+    fn push(&mut self, mut node: Box<Node<V>>) {
+        node.next = self.0.take();
+        self.0 = Some(node);
+    }
+
+    fn pop(&mut self) -> Option<Box<Node<V>>> {
+        let mut node = self.0.take()?;
+        self.0 = node.next.take();
+        Some(node)
+    }
+}
+
+impl<V> Drop for Left<V> {
+    fn drop(&mut self) {
+        /// Drops the others if the drop of a value panics.
+        struct Others<'a, V>(&'a mut Left<V>);
+        impl<V> Drop for Others<'_, V> {
+            fn drop(&mut self) {
+                while let Some(node) = self.0.pop() {
+                    drop(node);
+                }
+            }
+        }
+        let others = Others(self);
+        while let Some(node) = others.0.pop() {
+            drop(node);
+        }
+    }
+}
+
+/// Names a pin of an entry, and its node, which stays until the pin is given back.
+pub(super) struct Pin<V> {
+    pub(super) place: u32,
+    pub(super) node: NonNull<Node<V>>,
+}
+
+impl<V> Clone for Pin<V> {
+    fn clone(&self) -> Self {
+        *self
+    }
+}
+
+impl<V> Copy for Pin<V> {}
+
+impl<V> Pin<V> {
+    /// The pin that the library told.
+    #[inline]
+    pub(super) fn of(found: Found) -> Pin<V> {
+        Pin {
+            place: found.place,
+            node: value_of(found.value),
+        }
+    }
+}
+
+/// The pin that a look-up was told, if there is one.
+#[inline]
+pub(super) fn told<V>(found: Found) -> Result<Option<Pin<V>>, Refusal> {
+    match found.code {
+        ffi::HIT => Ok(Some(Pin::of(found))),
+        ffi::MISSED => Ok(None),
+        code => Err(refusal(code)),
+    }
+}
+
+/// A key with its hash, and the number of its shard.
+#[derive(Clone, Copy)]
+pub(super) struct Route {
+    pub(super) shard: usize,
+    pub(super) hash: u64,
+    pub(super) key: [u64; 2],
+}
+
+impl Route {
+    /// The lower half of the hash chooses the shard. The clock of the shard takes the upper half.
+    #[inline]
+    pub(super) fn new(key: [u64; 2], seed: u64, shards: usize) -> Route {
+        let hash = hash_of_words(key, seed);
+        let shard = (u128::from(hash as u32) * shards as u128) >> 32;
+        Route {
+            shard: shard as usize,
+            hash,
+            key,
+        }
+    }
+}
+
+/// The answer to a caller that asks for a key.
+pub(super) enum Turn<V> {
+    /// The key has a value, which is pinned.
+    Hit(Pin<V>),
+    /// The caller makes the value, and then calls `ready` or `fail` with this ticket.
+    Make(u64),
+    /// Another caller makes the value, with this ticket.
+    Wait(u64),
+}
+
+/// A value that is being made, and that its key will find.
+struct Making {
+    ticket: u64,
+    route: Route,
+    is_awaited: bool,
+}
+
+/// A shard of a cache. Look-ups without the lock do not read it, so they share no line with what
+/// the holders of the lock write.
+#[repr(align(64))]
+pub(super) struct Shard<V> {
+    state: Mutex<State<V>>,
+    /// Notified when a making has ended that threads wait for.
+    ended: Condvar,
+}
+
+impl<V> Shard<V> {
+    pub(super) fn new(capacity: u64) -> Result<Shard<V>, Refusal> {
+        let mut state = State {
+            clock: Handle::CLOSED,
+            reader: Handle::CLOSED,
+            makings: Vec::new(),
+            nodes: PhantomData,
+        };
+        // SAFETY: the clock is closed, and there is no other copy of it.
+        done(unsafe { ffi::lru_clock_new(capacity, &mut state.clock) })?;
+        // SAFETY: the state has the only copies of both handles.
+        done(unsafe { ffi::lru_reader_new(&mut state.clock, &mut state.reader) })?;
+        Ok(Shard {
+            state: Mutex::new(state),
+            ended: Condvar::new(),
+        })
+    }
+
+    pub(super) fn lock(&self) -> MutexGuard<'_, State<V>> {
+        unpoisoned(self.state.lock())
+    }
+
+    /// Waits until a making has ended.
+    pub(super) fn wait<'a>(
+        &'a self,
+        mut state: MutexGuard<'a, State<V>>,
+        ticket: u64,
+    ) -> MutexGuard<'a, State<V>> {
+        while state.makings.iter().any(|making| making.ticket == ticket) {
+            state = unpoisoned(self.ended.wait(state));
+        }
+        state
+    }
+
+    /// Releases the lock, and wakes those that wait if a making has ended that is awaited.
+    pub(super) fn unlock(&self, state: MutexGuard<'_, State<V>>, is_awaited: bool) {
+        drop(state);
+        if is_awaited {
+            self.ended.notify_all();
+        }
+    }
+}
+
+/// What the lock of a shard guards.
+pub(super) struct State<V> {
+    clock: Handle,
+    /// A reader for whoever has the lock.
+    reader: Handle,
+    makings: Vec<Making>,
+    nodes: PhantomData<Box<Node<V>>>,
+}
+
+// SAFETY: handles of the library may move to another thread. Otherwise a state owns nodes only.
+unsafe impl<V: Send> Send for State<V> {}
+
+impl<V> State<V> {
+    /// Opens a reader for a thread. If there is no memory, leaves it closed.
+    pub(super) fn open(&mut self, reader: *mut Handle) {
+        // SAFETY: the caller's thread is the only one that uses the reader, and this state has the
+        // only copy of the clock.
+        unsafe { ffi::lru_reader_new(&mut self.clock, reader) };
+    }
+
+    /// Pins the entry of a key.
+    pub(super) fn find(&mut self, route: Route) -> Result<Option<Pin<V>>, Refusal> {
+        let [first, second] = route.key;
+        // SAFETY: this state has the only copy of the handle.
+        told(unsafe { ffi::lru_clock_find(&mut self.clock, route.hash, first, second) })
+    }
+
+    /// Pins the entry at a place.
+    pub(super) fn pin_at(&mut self, place: u32) -> Found {
+        // SAFETY: this state has the only copy of the handle.
+        unsafe { ffi::lru_reader_pin_at(&mut self.reader, place) }
+    }
+
+    /// Gives a pin back.
+    pub(super) fn unpin(&mut self, place: u32, left: &mut Left<V>) {
+        // SAFETY: this state has the only copy of the handle.
+        let code = unsafe { ffi::lru_reader_unpin(&mut self.reader, place) };
+        if code == ffi::LAST {
+            self.collect(place, left);
+        }
+    }
+
+    /// Takes out the entry at a place that was invalidated and whose last pin was given back.
+    pub(super) fn collect(&mut self, place: u32, left: &mut Left<V>) {
+        let mut gone = ffi::Left::default();
+        // SAFETY: this state has the only copy of the handle.
+        if unsafe { ffi::lru_clock_collect(&mut self.clock, place, &mut gone) } == ffi::GONE {
+            left.take(gone);
+        }
+    }
+
+    /// Finds the value of a key, or begins to make it.
+    pub(super) fn begin(&mut self, route: Route, charge: u64) -> Result<Turn<V>, Refusal> {
+        error::room(self.makings.try_reserve(1))?;
+        let [first, second] = route.key;
+        // SAFETY: this state has the only copy of the handle.
+        let found =
+            unsafe { ffi::lru_clock_begin(&mut self.clock, route.hash, first, second, charge) };
+        match found.code {
+            ffi::HIT => Ok(Turn::Hit(Pin::of(found))),
+            ffi::MAKE => {
+                let ticket = found.value;
+                self.makings.push(Making {
+                    ticket,
+                    route,
+                    is_awaited: false,
+                });
+                Ok(Turn::Make(ticket))
+            }
+            ffi::WAIT => {
+                let mut makings = self.makings.iter_mut();
+                let Some(making) = makings.find(|making| making.route.key == route.key) else {
+                    unreachable!("the library and the list have the same makings");
+                };
+                making.is_awaited = true;
+                Ok(Turn::Wait(making.ticket))
+            }
+            code => Err(refusal(code)),
+        }
+    }
+
+    /// Stores the value that was made with a ticket, and pins it. If it is refused, the making has
+    /// failed. Also returns whether the making is awaited.
+    pub(super) fn ready(
+        &mut self,
+        route: Route,
+        ticket: u64,
+        node: Box<Node<V>>,
+        left: &mut Left<V>,
+    ) -> (Result<Pin<V>, Refusal>, bool) {
+        self.make_room(node.charge, left);
+        let ended = self.end(|making| making.ticket == ticket);
+        if ended.is_none() {
+            // The key was invalidated or got another value meanwhile.
+            node.unlist();
+        }
+        let stored = self.store(node, left, |clock, charge, word| {
+            // SAFETY: this state has the only copy of the handle.
+            unsafe { ffi::lru_clock_ready(clock, ticket, route.hash, charge, word) }
+        });
+        (stored, ended == Some(true))
+    }
+
+    /// Ends a making that failed. Returns whether it is awaited.
+    pub(super) fn fail(&mut self, ticket: u64) -> bool {
+        // SAFETY: this state has the only copy of the handle.
+        let code = unsafe { ffi::lru_clock_fail(&mut self.clock, ticket) };
+        debug_assert_eq!(code, ffi::DONE);
+        self.end(|making| making.ticket == ticket) == Some(true)
+    }
+
+    /// Invalidates a key, and stores a value for it, which is pinned. Also returns whether a making
+    /// has ended that is awaited.
+    pub(super) fn insert(
+        &mut self,
+        route: Route,
+        node: Box<Node<V>>,
+        left: &mut Left<V>,
+    ) -> (Result<Pin<V>, Refusal>, bool) {
+        if self.total().checked_add(node.charge).is_none() {
+            left.push(node);
+            return (Err(Refusal::Overflow), false);
+        }
+        let is_awaited = self.erase(route, left);
+        self.make_room(node.charge, left);
+        let [first, second] = route.key;
+        let stored = self.store(node, left, |clock, charge, word| {
+            // SAFETY: this state has the only copy of the handle.
+            unsafe { ffi::lru_clock_add(clock, route.hash, first, second, charge, word) }
+        });
+        (stored, is_awaited)
+    }
+
+    /// Stores a node by a function of the library, which is given its charge and its word. A node
+    /// that is refused leaves at once.
+    fn store(
+        &mut self,
+        node: Box<Node<V>>,
+        left: &mut Left<V>,
+        store: impl FnOnce(*mut Handle, u64, u64) -> Found,
+    ) -> Result<Pin<V>, Refusal> {
+        let charge = node.charge;
+        let word = word_of(Box::into_raw(node));
+        let found = store(&mut self.clock, charge, word);
+        if found.code == ffi::DONE {
+            return Ok(Pin::of(found));
+        }
+        // SAFETY: the pointer is that of the box above, and the library has not stored it.
+        left.push(unsafe { Box::from_raw(value_of(word).as_ptr()) });
+        Err(refusal(found.code))
+    }
+
+    /// Invalidates a key. Returns whether a making has ended that is awaited.
+    pub(super) fn erase(&mut self, route: Route, left: &mut Left<V>) -> bool {
+        // A value that cannot be pinned once more is invalidated too.
+        let found = self.find(route).ok().flatten();
+        if let Some(pin) = found {
+            // SAFETY: the entry is pinned, so its node stays.
+            unsafe { pin.node.as_ref() }.unlist();
+        }
+        let [first, second] = route.key;
+        let mut gone = ffi::Left::default();
+        let clock = &mut self.clock;
+        // SAFETY: this state has the only copy of the handle.
+        let code = unsafe { ffi::lru_clock_erase(clock, route.hash, first, second, &mut gone) };
+        if code == ffi::GONE {
+            left.take(gone);
+        }
+        if let Some(pin) = found {
+            self.unpin(pin.place, left);
+        }
+        self.end(|making| making.route.key == route.key) == Some(true)
+    }
+
+    /// Removes a making from the list. Returns whether it is awaited, or `None` if there is none.
+    fn end(&mut self, is_it: impl FnMut(&Making) -> bool) -> Option<bool> {
+        let place = self.makings.iter().position(is_it)?;
+        Some(self.makings.swap_remove(place).is_awaited)
+    }
+
+    /// Evicts entries until a charge has room, or all that are left are pinned.
+    pub(super) fn make_room(&mut self, charge: u64, left: &mut Left<V>) {
+        let mut gone = ffi::Left::default();
+        // SAFETY: this state has the only copy of the handle.
+        while unsafe { ffi::lru_clock_make_room(&mut self.clock, charge, &mut gone) } == ffi::GONE {
+            left.take(gone);
+        }
+    }
+
+    /// Evicts every entry without a pin.
+    pub(super) fn prune(&mut self, left: &mut Left<V>) {
+        let mut next = 0;
+        let mut gone = ffi::Left::default();
+        // SAFETY: this state has the only copy of the handle.
+        while unsafe { ffi::lru_clock_prune(&mut self.clock, &mut next, &mut gone) } == ffi::GONE {
+            left.take(gone);
+        }
+    }
+
+    /// Invalidates every key of the cache with this seed and number of shards. Returns whether a
+    /// making has ended that is awaited.
+    pub(super) fn clear(
+        &mut self,
+        seed: u64,
+        shards: usize,
+        left: &mut Left<V>,
+    ) -> (Result<(), Refusal>, bool) {
+        let mut is_awaited = false;
+        while let Some(making) = self.makings.last() {
+            is_awaited |= self.erase(making.route, left);
+        }
+        for place in 0..self.places() {
+            let pin: Pin<V> = match told(self.pin_at(place)) {
+                Ok(Some(pin)) => pin,
+                Ok(None) => continue,
+                Err(refusal) => return (Err(refusal), is_awaited),
+            };
+            // SAFETY: the entry is pinned, so its node stays.
+            let node = unsafe { pin.node.as_ref() };
+            if node.is_listed() {
+                self.erase(Route::new(node.key, seed, shards), left);
+            }
+            self.unpin(place, left);
+        }
+        (Ok(()), is_awaited)
+    }
+
+    /// Sets the capacity, and evicts down to it.
+    pub(super) fn set_capacity(&mut self, capacity: u64, left: &mut Left<V>) {
+        // SAFETY: this state has the only copy of the handle.
+        unsafe { ffi::lru_clock_set_capacity(&mut self.clock, capacity) };
+        self.make_room(0, left);
+    }
+
+    /// The total of the charges of all entries.
+    pub(super) fn total(&mut self) -> u64 {
+        // SAFETY: this state has the only copy of the handle.
+        let found = unsafe { ffi::lru_clock_total(&mut self.clock) };
+        found.value
+    }
+
+    /// The total of the charges of the entries that are pinned.
+    pub(super) fn pinned_charge(&mut self) -> u64 {
+        // SAFETY: this state has the only copy of the handle.
+        let found = unsafe { ffi::lru_clock_pinned_charge(&mut self.clock) };
+        found.value
+    }
+
+    /// The capacity.
+    pub(super) fn capacity(&mut self) -> u64 {
+        // SAFETY: this state has the only copy of the handle.
+        let found = unsafe { ffi::lru_clock_capacity(&mut self.clock) };
+        found.value
+    }
+
+    /// The number of entries.
+    pub(super) fn len(&mut self) -> u64 {
+        // SAFETY: this state has the only copy of the handle.
+        let found = unsafe { ffi::lru_clock_len(&mut self.clock) };
+        found.value
+    }
+
+    /// The number of places. It fits, as places are numbered by 32 bits.
+    pub(super) fn places(&mut self) -> u32 {
+        // SAFETY: this state has the only copy of the handle.
+        let found = unsafe { ffi::lru_clock_places(&mut self.clock) };
+        found.value as u32
+    }
+}
+
+impl<V> Drop for State<V> {
+    fn drop(&mut self) {
+        let mut left = Left::new();
+        self.prune(&mut left);
+        // SAFETY: this state has the only copy of the handle.
+        if unsafe { ffi::lru_clock_free(&mut self.clock) } == ffi::NOT_EMPTY {
+            // The pins that are left are those of handles that were forgotten.
+            for place in 0..self.places() {
+                // SAFETY: this state has the only copy of the handle.
+                while unsafe { ffi::lru_reader_unpin(&mut self.reader, place) } == ffi::DONE {}
+            }
+            self.prune(&mut left);
+            // SAFETY: this state has the only copy of the handle.
+            unsafe { ffi::lru_clock_free(&mut self.clock) };
+        }
+        // SAFETY: this state has the only copy of the handle.
+        unsafe { ffi::lru_reader_free(&mut self.reader) };
+    }
+}

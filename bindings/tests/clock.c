@@ -1,0 +1,600 @@
+/* Tests the clock of lru.h: what each call answers, with one thread; that nothing is lost where
+ * memory is refused; that each value is deleted once, and none while it is pinned, while eight
+ * threads look up, insert and erase; and that each key has one maker at a time, whose value the
+ * others get, while eight threads make, fail and erase. Prints each failure, and exits with 1 if
+ * there is any.
+ *
+ * The linker puts the functions below before those of the C library (--wrap). */
+#include <inttypes.h>
+#include <pthread.h>
+#include <sched.h>
+#include <stdatomic.h>
+#include <stdbool.h>
+#include <stdio.h>
+
+#include "lru.h"
+
+static atomic_int failures;
+
+static void check(int line, uint64_t got, uint64_t wanted) {
+    if (got == wanted)
+        return;
+    fprintf(stderr, "clock.c:%d: got %" PRIu64 ", wanted %" PRIu64 "\n", line, got, wanted);
+    failures++;
+}
+
+#define CHECK(got, wanted) check(__LINE__, (uint64_t)(got), (uint64_t)(wanted))
+
+static unsigned refused; /* which request for memory is refused, counted down; 0 for none */
+
+void *__real_malloc(size_t size);
+void *__real_realloc(void *block, size_t size);
+void *__wrap_malloc(size_t size);
+void *__wrap_realloc(void *block, size_t size);
+
+static bool is_refused(void) { return refused > 0 && --refused == 0; }
+
+void *__wrap_malloc(size_t size) { return is_refused() ? NULL : __real_malloc(size); }
+
+void *__wrap_realloc(void *block, size_t size) {
+    return is_refused() ? NULL : __real_realloc(block, size);
+}
+
+static uint64_t hash_of(uint64_t key) { return key * 0x9e3779b97f4a7c15; }
+
+/* --------------------------------------------------------------------------------- one thread */
+
+static void adds(lru_clock *clock, lru_reader *reader, uint64_t key, uint64_t charge) {
+    lru_found added = lru_clock_add(clock, hash_of(key), key, ~key, charge, 10 * key);
+    CHECK(added.code, LRU_DONE);
+    CHECK(added.value, 10 * key);
+    CHECK(lru_reader_unpin(reader, added.place), LRU_DONE);
+}
+
+static void test_answers(void) {
+    lru_clock clock = {0};
+    lru_reader reader = {0}, other = {0};
+    lru_left left = {1, 2, 3};
+    lru_found found;
+    uint32_t next = 0, place;
+
+    /* what is not open */
+    CHECK(lru_clock_free(&clock), LRU_CLOSED);
+    CHECK(lru_reader_free(&reader), LRU_CLOSED);
+    CHECK(lru_reader_new(&clock, &reader), LRU_CLOSED);
+    CHECK(lru_reader_pin(&reader, 0, 0, 0).code, LRU_CLOSED);
+    CHECK(lru_reader_pin_at(&reader, 0).code, LRU_CLOSED);
+    CHECK(lru_reader_unpin(&reader, 0), LRU_CLOSED);
+    CHECK(lru_clock_make_room(&clock, 1, &left), LRU_CLOSED);
+    CHECK(lru_clock_add(&clock, 0, 0, 0, 1, 0).code, LRU_CLOSED);
+    CHECK(lru_clock_find(&clock, 0, 0, 0).code, LRU_CLOSED);
+    CHECK(lru_clock_begin(&clock, 0, 0, 0, 1).code, LRU_CLOSED);
+    CHECK(lru_clock_ready(&clock, 0, 0, 1, 0).code, LRU_CLOSED);
+    CHECK(lru_clock_fail(&clock, 0), LRU_CLOSED);
+    CHECK(lru_clock_erase(&clock, 0, 0, 0, &left), LRU_CLOSED);
+    CHECK(lru_clock_collect(&clock, 0, &left), LRU_CLOSED);
+    CHECK(lru_clock_prune(&clock, &next, &left), LRU_CLOSED);
+    CHECK(lru_clock_set_capacity(&clock, 1), LRU_CLOSED);
+    CHECK(lru_clock_total(&clock).code, LRU_CLOSED);
+    CHECK(lru_clock_pinned_charge(&clock).code, LRU_CLOSED);
+    CHECK(lru_clock_capacity(&clock).code, LRU_CLOSED);
+    CHECK(lru_clock_len(&clock).code, LRU_CLOSED);
+    CHECK(lru_clock_places(&clock).code, LRU_CLOSED);
+    CHECK(left.first == 1 && left.second == 2 && left.value == 3, true);
+
+    CHECK(lru_clock_new(10, &clock), LRU_DONE);
+    CHECK(lru_clock_new(10, &clock), LRU_OPEN);
+    CHECK(lru_reader_new(&clock, &reader), LRU_DONE);
+    CHECK(lru_reader_new(&clock, &reader), LRU_OPEN);
+    CHECK(lru_reader_new(&clock, &other), LRU_DONE);
+    CHECK(lru_clock_capacity(&clock).value, 10);
+    CHECK(lru_clock_places(&clock).value, 0);
+
+    /* a key that has no entry, a place that has none, and a pin of none */
+    CHECK(lru_reader_pin(&reader, hash_of(1), 1, ~1ul).code, LRU_MISSED);
+    CHECK(lru_reader_pin_at(&reader, 0).code, LRU_MISSED);
+    CHECK(lru_reader_pin_at(&reader, UINT32_MAX).code, LRU_MISSED);
+    CHECK(lru_reader_unpin(&reader, 0), LRU_STALE);
+    CHECK(lru_reader_unpin(&reader, UINT32_MAX), LRU_STALE);
+    CHECK(lru_clock_find(&clock, hash_of(1), 1, ~1ul).code, LRU_MISSED);
+    CHECK(lru_clock_erase(&clock, hash_of(1), 1, ~1ul, &left), LRU_DONE);
+    CHECK(lru_clock_collect(&clock, 7, &left), LRU_DONE);
+    CHECK(lru_clock_add(&clock, hash_of(1), 1, ~1ul, 0, 5).code, LRU_NO_CHARGE);
+    CHECK(lru_clock_len(&clock).value, 0);
+
+    /* an entry is found by its key alone, and one that the key has is told in place of a new one */
+    adds(&clock, &reader, 1, 4);
+    CHECK(lru_reader_pin(&reader, hash_of(1), 1, 1).code, LRU_MISSED);
+    found = lru_reader_pin(&reader, hash_of(1), 1, ~1ul);
+    CHECK(found.code, LRU_HIT);
+    CHECK(found.value, 10);
+    place = found.place;
+    CHECK(lru_clock_pinned_charge(&clock).value, 4);
+    found = lru_clock_add(&clock, hash_of(1), 1, ~1ul, 3, 99);
+    CHECK(found.code, LRU_HIT);
+    CHECK(found.value, 10);
+    CHECK(found.place, place);
+    CHECK(lru_clock_total(&clock).value, 4);
+    CHECK(lru_reader_pin_at(&other, place).value, 10);
+
+    /* a reader that is freed leaves its pins, and another one gives them back */
+    CHECK(lru_reader_free(&reader), LRU_DONE);
+    CHECK(lru_reader_unpin(&other, place), LRU_DONE);
+    CHECK(lru_reader_unpin(&other, place), LRU_DONE);
+
+    /* an entry that is erased while it is pinned is collected after its last pin */
+    CHECK(lru_clock_erase(&clock, hash_of(1), 1, ~1ul, &left), LRU_DONE);
+    CHECK(lru_reader_pin(&other, hash_of(1), 1, ~1ul).code, LRU_MISSED);
+    CHECK(lru_clock_collect(&clock, place, &left), LRU_DONE);
+    CHECK(lru_clock_free(&clock), LRU_NOT_EMPTY);
+    CHECK(lru_reader_unpin(&other, place), LRU_LAST);
+    CHECK(lru_reader_unpin(&other, place), LRU_STALE);
+    CHECK(lru_clock_collect(&clock, place, &left), LRU_GONE);
+    CHECK(left.first == 1 && left.second == ~1ul && left.value == 10, true);
+    CHECK(lru_clock_collect(&clock, place, &left), LRU_DONE);
+    CHECK(lru_clock_len(&clock).value, 0);
+
+    /* an entry that is erased while it is not pinned leaves at once */
+    adds(&clock, &other, 2, 4);
+    CHECK(lru_clock_erase(&clock, hash_of(2), 2, ~2ul, &left), LRU_GONE);
+    CHECK(left.value, 20);
+
+    /* no pinned entry is evicted, and the others are, one by one */
+    adds(&clock, &other, 3, 4);
+    adds(&clock, &other, 4, 4);
+    found = lru_reader_pin(&other, hash_of(3), 3, ~3ul);
+    CHECK(lru_clock_make_room(&clock, 2, &left), LRU_DONE);
+    CHECK(lru_clock_make_room(&clock, 3, &left), LRU_GONE);
+    CHECK(left.value, 40);
+    CHECK(lru_clock_make_room(&clock, 3, &left), LRU_DONE);
+    CHECK(lru_clock_set_capacity(&clock, 1), LRU_DONE);
+    CHECK(lru_clock_make_room(&clock, 0, &left), LRU_DONE);
+    CHECK(lru_clock_total(&clock).value, 4);
+    CHECK(lru_clock_add(&clock, hash_of(5), 5, ~5ul, UINT64_MAX, 50).code, LRU_OVERFLOW);
+    CHECK(lru_clock_prune(&clock, &next, &left), LRU_DONE);
+    CHECK(lru_reader_unpin(&other, found.place), LRU_DONE);
+    CHECK(lru_clock_prune(&clock, &next, &left), LRU_GONE);
+    CHECK(left.value, 30);
+    CHECK(lru_clock_prune(&clock, &next, &left), LRU_DONE);
+
+    /* what a reader shares outlives the clock */
+    CHECK(lru_clock_free(&clock), LRU_DONE);
+    CHECK(lru_clock_free(&clock), LRU_CLOSED);
+    CHECK(lru_reader_pin(&other, hash_of(3), 3, ~3ul).code, LRU_MISSED);
+    CHECK(lru_reader_free(&other), LRU_DONE);
+    CHECK(lru_clock_new(1, &clock), LRU_DONE);
+    CHECK(lru_clock_free(&clock), LRU_DONE);
+}
+
+static lru_found begins(lru_clock *clock, uint64_t key, uint64_t charge) {
+    return lru_clock_begin(clock, hash_of(key), key, ~key, charge);
+}
+
+static lru_found readies(lru_clock *clock, uint64_t ticket, uint64_t key, uint64_t charge,
+                         uint64_t value) {
+    return lru_clock_ready(clock, ticket, hash_of(key), charge, value);
+}
+
+/* Begins a making of a key that nobody makes, of which other callers are told to wait. */
+static uint64_t ticket_of(lru_clock *clock, uint64_t key) {
+    lru_found made = begins(clock, key, 1);
+    CHECK(made.code, LRU_MAKE);
+    CHECK(made.place, 0);
+    CHECK(begins(clock, key, 1).code, LRU_WAIT);
+    return made.value;
+}
+
+/* Gives back the pin of an entry that only its maker has, which is then told to leave. */
+static void leaves(lru_clock *clock, lru_reader *reader, uint32_t place, uint64_t key,
+                   uint64_t value) {
+    lru_left left;
+    CHECK(lru_reader_unpin(reader, place), LRU_LAST);
+    CHECK(lru_clock_collect(clock, place, &left), LRU_GONE);
+    CHECK(left.first == key && left.second == ~key && left.value == value, true);
+}
+
+static void finds(lru_clock *clock, lru_reader *reader, uint64_t key, uint64_t value) {
+    lru_found found = lru_reader_pin(reader, hash_of(key), key, ~key);
+    CHECK(found.code, LRU_HIT);
+    CHECK(found.value, value);
+    CHECK(lru_reader_unpin(reader, found.place), LRU_DONE);
+    found = begins(clock, key, 1);
+    CHECK(found.code, LRU_HIT);
+    CHECK(found.value, value);
+    CHECK(lru_reader_unpin(reader, found.place), LRU_DONE);
+}
+
+static void test_makings(void) {
+    lru_clock clock = {0};
+    lru_reader reader = {0};
+    lru_left left;
+    lru_found found, other;
+    uint64_t one, two, three;
+    uint32_t next = 0;
+    CHECK(lru_clock_new(100, &clock), LRU_DONE);
+    CHECK(lru_reader_new(&clock, &reader), LRU_DONE);
+
+    /* no ticket is good before it was told; a refused begin begins nothing */
+    CHECK(lru_clock_fail(&clock, 0), LRU_STALE);
+    CHECK(readies(&clock, 0, 1, 1, 10).code, LRU_STALE);
+    CHECK(begins(&clock, 1, 0).code, LRU_NO_CHARGE);
+    CHECK(lru_clock_free(&clock), LRU_DONE);
+    CHECK(lru_reader_free(&reader), LRU_DONE);
+    CHECK(lru_clock_new(100, &clock), LRU_DONE);
+    CHECK(lru_reader_new(&clock, &reader), LRU_DONE);
+
+    /* each key has its own making, which is no entry, and keeps the clock from being freed */
+    one = ticket_of(&clock, 1);
+    two = ticket_of(&clock, 2);
+    CHECK(one == two, false);
+    CHECK(lru_reader_pin(&reader, hash_of(1), 1, ~1ul).code, LRU_MISSED);
+    CHECK(lru_clock_find(&clock, hash_of(1), 1, ~1ul).code, LRU_MISSED);
+    CHECK(lru_clock_len(&clock).value, 0);
+    CHECK(lru_clock_total(&clock).value, 0);
+    CHECK(lru_clock_free(&clock), LRU_NOT_EMPTY);
+
+    /* a making that is not made ready goes on */
+    CHECK(readies(&clock, one, 1, 0, 10).code, LRU_NO_CHARGE);
+    CHECK(readies(&clock, UINT64_MAX, 1, 1, 10).code, LRU_STALE);
+    CHECK(begins(&clock, 1, 1).code, LRU_WAIT);
+    CHECK(lru_clock_len(&clock).value, 0);
+
+    /* its value is stored with the charge of ready, pinned, and found by all; its ticket is used */
+    found = readies(&clock, one, 1, 7, 10);
+    CHECK(found.code, LRU_DONE);
+    CHECK(found.value, 10);
+    CHECK(lru_clock_total(&clock).value, 7);
+    CHECK(lru_clock_pinned_charge(&clock).value, 7);
+    finds(&clock, &reader, 1, 10);
+    CHECK(readies(&clock, one, 1, 1, 11).code, LRU_STALE);
+    CHECK(lru_clock_fail(&clock, one), LRU_STALE);
+    CHECK(lru_clock_len(&clock).value, 1);
+    CHECK(lru_reader_unpin(&reader, found.place), LRU_DONE);
+
+    /* after a making that failed the key is made again, under another ticket */
+    CHECK(lru_clock_fail(&clock, two), LRU_DONE);
+    CHECK(lru_clock_fail(&clock, two), LRU_STALE);
+    CHECK(readies(&clock, two, 2, 1, 20).code, LRU_STALE);
+    three = ticket_of(&clock, 2);
+    CHECK(three == one || three == two, false);
+    CHECK(lru_clock_fail(&clock, three), LRU_DONE);
+
+    /* of an erased key another caller makes the value, and each maker has a ticket of its own; the
+     * first one gets its value alone, before the other is ready and after it */
+    one = ticket_of(&clock, 3);
+    CHECK(lru_clock_erase(&clock, hash_of(3), 3, ~3ul, &left), LRU_DONE);
+    two = ticket_of(&clock, 3);
+    CHECK(lru_clock_erase(&clock, hash_of(3), 3, ~3ul, &left), LRU_DONE);
+    three = ticket_of(&clock, 3);
+    found = readies(&clock, one, 3, 1, 31);
+    CHECK(found.code, LRU_DONE);
+    CHECK(found.value, 31);
+    CHECK(lru_reader_pin(&reader, hash_of(3), 3, ~3ul).code, LRU_MISSED);
+    CHECK(begins(&clock, 3, 1).code, LRU_WAIT);
+    leaves(&clock, &reader, found.place, 3, 31);
+    other = readies(&clock, three, 3, 1, 33);
+    CHECK(other.code, LRU_DONE);
+    found = readies(&clock, two, 3, 1, 32);
+    CHECK(found.code, LRU_DONE);
+    CHECK(found.value, 32);
+    finds(&clock, &reader, 3, 33);
+    leaves(&clock, &reader, found.place, 3, 32);
+    CHECK(lru_reader_unpin(&reader, other.place), LRU_DONE);
+
+    /* of a key that was added meanwhile all find what was added, and the maker has its own value */
+    one = ticket_of(&clock, 4);
+    adds(&clock, &reader, 4, 1);
+    finds(&clock, &reader, 4, 40);
+    found = readies(&clock, one, 4, 1, 41);
+    CHECK(found.code, LRU_DONE);
+    CHECK(found.value, 41);
+    finds(&clock, &reader, 4, 40);
+    leaves(&clock, &reader, found.place, 4, 41);
+    finds(&clock, &reader, 4, 40);
+
+    /* an add that stores nothing leaves the making, and an invalidated one may fail */
+    one = ticket_of(&clock, 5);
+    CHECK(lru_clock_add(&clock, hash_of(5), 5, ~5ul, 0, 50).code, LRU_NO_CHARGE);
+    CHECK(lru_clock_add(&clock, hash_of(5), 5, ~5ul, UINT64_MAX, 50).code, LRU_OVERFLOW);
+    CHECK(begins(&clock, 5, 1).code, LRU_WAIT);
+    CHECK(lru_clock_erase(&clock, hash_of(5), 5, ~5ul, &left), LRU_DONE);
+    CHECK(lru_clock_fail(&clock, one), LRU_DONE);
+    CHECK(lru_clock_fail(&clock, one), LRU_STALE);
+
+    /* a charge that does not fit: nothing is begun, and a making has ended */
+    CHECK(begins(&clock, 6, UINT64_MAX).code, LRU_OVERFLOW);
+    one = ticket_of(&clock, 6);
+    CHECK(readies(&clock, one, 6, UINT64_MAX, 60).code, LRU_OVERFLOW);
+    CHECK(lru_clock_fail(&clock, one), LRU_STALE);
+    one = ticket_of(&clock, 6);
+    CHECK(lru_clock_fail(&clock, one), LRU_DONE);
+
+    CHECK(lru_clock_len(&clock).value, 3);
+    while (lru_clock_prune(&clock, &next, &left) == LRU_GONE)
+        CHECK(left.value == 10 || left.value == 33 || left.value == 40, true);
+    CHECK(lru_clock_free(&clock), LRU_DONE);
+    CHECK(lru_reader_free(&reader), LRU_DONE);
+}
+
+/* ------------------------------------------------------------------------------ refused memory */
+
+/* Stores an entry as its maker, where one request for memory is refused: a begin that is refused
+ * begins nothing, and a ready that is refused has ended the making. */
+static lru_found make(lru_clock *clock, uint64_t key) {
+    lru_found found = begins(clock, key, 1);
+    uint64_t ticket;
+    if (found.code == LRU_MEMORY)
+        found = begins(clock, key, 1);
+    CHECK(found.code, LRU_MAKE);
+    ticket = found.value;
+    found = readies(clock, ticket, key, 1, key);
+    CHECK(lru_clock_fail(clock, ticket), LRU_STALE);
+    return found;
+}
+
+/* Opens a clock and adds entries to it, where one request for memory is refused. Returns whether
+ * that was made at all. */
+static bool test_refusal(unsigned which) {
+    enum { ENTRIES = 700 };
+    lru_clock clock = {0};
+    lru_reader reader = {0};
+    lru_left left;
+    uint64_t key, stored = 0, gone = 0;
+    uint32_t next = 0;
+    lru_code code;
+    refused = which;
+    code = lru_clock_new(ENTRIES, &clock);
+    CHECK(code == LRU_DONE || code == LRU_MEMORY, true);
+    if (code == LRU_MEMORY)
+        CHECK(lru_clock_new(ENTRIES, &clock), LRU_DONE);
+    code = lru_reader_new(&clock, &reader);
+    CHECK(code == LRU_DONE || code == LRU_MEMORY, true);
+    if (code == LRU_MEMORY)
+        CHECK(lru_reader_new(&clock, &reader), LRU_DONE);
+    for (key = 0; key < ENTRIES; key++) {
+        lru_found found = key % 2 == 0 ? lru_clock_add(&clock, hash_of(key), key, ~key, 1, key)
+                                       : make(&clock, key);
+        CHECK(found.code == LRU_DONE || found.code == LRU_MEMORY, true);
+        if (found.code == LRU_DONE) {
+            stored++;
+            CHECK(lru_reader_unpin(&reader, found.place), LRU_DONE);
+        }
+        CHECK(lru_clock_len(&clock).value, stored);
+        CHECK(lru_clock_total(&clock).value, stored);
+    }
+    while (lru_clock_prune(&clock, &next, &left) == LRU_GONE) {
+        CHECK(left.first, left.value);
+        gone++;
+    }
+    CHECK(gone, stored);
+    CHECK(lru_clock_free(&clock), LRU_DONE);
+    CHECK(lru_reader_free(&reader), LRU_DONE);
+    return refused == 0;
+}
+
+static unsigned test_refusals(void) {
+    unsigned which = 1;
+    while (test_refusal(which))
+        which++;
+    refused = 0;
+    return which - 1;
+}
+
+/* ----------------------------------------------------------------------------- several threads */
+
+enum { THREADS = 8, CALLS = 40000, KEYS = 200, MOST_VALUES = 2 * THREADS * CALLS };
+
+/* A value is the number of an object. */
+static struct object {
+    uint64_t key;
+    unsigned erasures; /* of the key, when its value was begun */
+    atomic_int deletions, pins;
+} objects[MOST_VALUES];
+
+static atomic_uint next_object;
+static lru_clock shared_clock;
+static pthread_mutex_t mutex = PTHREAD_MUTEX_INITIALIZER;
+
+static void delete_value(const lru_left *left) {
+    struct object *object = &objects[left->value];
+    CHECK(object->key, left->first);
+    CHECK(object->pins, 0);
+    CHECK(object->deletions++, 0);
+}
+
+/* Uses a pinned value, gives its pin back, and returns how that was answered. */
+static lru_code use(lru_reader *reader, lru_found found, uint64_t key) {
+    struct object *object = &objects[found.value];
+    lru_left left;
+    lru_code code, unpinned;
+    object->pins++;
+    CHECK(object->key, key);
+    CHECK(object->deletions, 0);
+    object->pins--;
+    unpinned = lru_reader_unpin(reader, found.place);
+    if (unpinned == LRU_LAST) {
+        pthread_mutex_lock(&mutex);
+        code = lru_clock_collect(&shared_clock, found.place, &left);
+        pthread_mutex_unlock(&mutex);
+        if (code == LRU_GONE)
+            delete_value(&left);
+    } else {
+        CHECK(unpinned, LRU_DONE);
+    }
+    return unpinned;
+}
+
+static void insert(lru_reader *reader, uint64_t key) {
+    lru_left kept[KEYS];
+    lru_found found;
+    unsigned count = 0, number = next_object++;
+    objects[number].key = key;
+    pthread_mutex_lock(&mutex);
+    while (count < KEYS && lru_clock_make_room(&shared_clock, 1, &kept[count]) == LRU_GONE)
+        count++;
+    found = lru_clock_add(&shared_clock, hash_of(key), key, ~key, 1, number);
+    pthread_mutex_unlock(&mutex);
+    while (count > 0)
+        delete_value(&kept[--count]);
+    if (found.code == LRU_HIT)
+        objects[number].deletions++;
+    else
+        CHECK(found.code, LRU_DONE);
+    use(reader, found, key);
+}
+
+static void *run(void *from) {
+    lru_reader reader = {0};
+    uint64_t random = (uintptr_t)from;
+    int call;
+    pthread_mutex_lock(&mutex);
+    CHECK(lru_reader_new(&shared_clock, &reader), LRU_DONE);
+    pthread_mutex_unlock(&mutex);
+    for (call = 0; call < CALLS; call++) {
+        uint64_t key;
+        lru_found found;
+        random = random * 6364136223846793005 + 1442695040888963407;
+        key = (random >> 33) % KEYS;
+        if ((random >> 55) % 16 == 0) {
+            lru_left left;
+            lru_code code;
+            pthread_mutex_lock(&mutex);
+            code = lru_clock_erase(&shared_clock, hash_of(key), key, ~key, &left);
+            pthread_mutex_unlock(&mutex);
+            if (code == LRU_GONE)
+                delete_value(&left);
+            continue;
+        }
+        found = lru_reader_pin(&reader, hash_of(key), key, ~key);
+        if (found.code == LRU_HIT)
+            use(&reader, found, key);
+        else
+            insert(&reader, key);
+    }
+    CHECK(lru_reader_free(&reader), LRU_DONE);
+    return NULL;
+}
+
+/* How often a key was erased, and how many makers it has had since whose values were stored or are
+ * being made. The mutex protects both. */
+static struct {
+    unsigned erasures, makers;
+} keys[KEYS];
+
+static pthread_cond_t ended = PTHREAD_COND_INITIALIZER;
+static atomic_uint waits, lone_values;
+
+/* Makes the value of a key under a ticket, while the mutex is not held, and uses it. */
+static void make_value(lru_reader *reader, uint64_t key, uint64_t ticket, bool fails) {
+    lru_found found = {0, 0, 0};
+    unsigned number = next_object++, erasures = keys[key].erasures;
+    bool is_lone;
+    CHECK(keys[key].makers++, 0);
+    objects[number].key = key;
+    objects[number].erasures = erasures;
+    pthread_mutex_unlock(&mutex);
+    sched_yield();
+    pthread_mutex_lock(&mutex);
+    is_lone = keys[key].erasures != erasures;
+    if (fails) {
+        CHECK(lru_clock_fail(&shared_clock, ticket), LRU_DONE);
+        if (!is_lone)
+            keys[key].makers--;
+    } else {
+        found = lru_clock_ready(&shared_clock, ticket, hash_of(key), 1, number);
+        CHECK(found.code, LRU_DONE);
+        CHECK(found.value, number);
+    }
+    CHECK(lru_clock_fail(&shared_clock, ticket), LRU_STALE);
+    pthread_cond_broadcast(&ended);
+    pthread_mutex_unlock(&mutex);
+    if (fails) {
+        objects[number].deletions++;
+    } else if (is_lone) {
+        CHECK(use(reader, found, key), LRU_LAST);
+        CHECK(objects[number].deletions, 1);
+        lone_values++;
+    } else {
+        use(reader, found, key);
+    }
+}
+
+/* Nothing is evicted here: an entry leaves because its key was erased, so that those who find a key
+ * find the value that was begun after its last erasure. */
+static void *run_makers(void *from) {
+    lru_reader reader = {0};
+    uint64_t random = (uintptr_t)from;
+    int call;
+    pthread_mutex_lock(&mutex);
+    CHECK(lru_reader_new(&shared_clock, &reader), LRU_DONE);
+    pthread_mutex_unlock(&mutex);
+    for (call = 0; call < CALLS; call++) {
+        uint64_t key;
+        lru_found found;
+        random = random * 6364136223846793005 + 1442695040888963407;
+        key = (random >> 33) % KEYS;
+        pthread_mutex_lock(&mutex);
+        if ((random >> 55) % 4 == 0) {
+            lru_left left;
+            lru_code code = lru_clock_erase(&shared_clock, hash_of(key), key, ~key, &left);
+            keys[key].erasures++;
+            keys[key].makers = 0;
+            pthread_mutex_unlock(&mutex);
+            if (code == LRU_GONE)
+                delete_value(&left);
+            continue;
+        }
+        while ((found = begins(&shared_clock, key, 1)).code == LRU_WAIT) {
+            CHECK(keys[key].makers, 1);
+            waits++;
+            pthread_cond_wait(&ended, &mutex);
+        }
+        if (found.code == LRU_MAKE) {
+            make_value(&reader, key, found.value, (random >> 58) % 4 == 0);
+        } else {
+            CHECK(found.code, LRU_HIT);
+            CHECK(objects[found.value].erasures, keys[key].erasures);
+            pthread_mutex_unlock(&mutex);
+            use(&reader, found, key);
+        }
+    }
+    CHECK(lru_reader_free(&reader), LRU_DONE);
+    return NULL;
+}
+
+/* Runs eight threads on a clock, after which each value was deleted once. */
+static void test_threads(uint64_t capacity, void *(*work)(void *)) {
+    pthread_t threads[THREADS];
+    lru_left left;
+    uint32_t next = 0;
+    uintptr_t number;
+    unsigned made, deleted = 0;
+    CHECK(lru_clock_new(capacity, &shared_clock), LRU_DONE);
+    for (number = 0; number < THREADS; number++)
+        CHECK(pthread_create(&threads[number], NULL, work, (void *)(number + 1)), 0);
+    for (number = 0; number < THREADS; number++)
+        CHECK(pthread_join(threads[number], NULL), 0);
+    CHECK(lru_clock_pinned_charge(&shared_clock).value, 0);
+    while (lru_clock_prune(&shared_clock, &next, &left) == LRU_GONE)
+        delete_value(&left);
+    CHECK(lru_clock_free(&shared_clock), LRU_DONE);
+    made = next_object;
+    for (number = 0; number < made; number++)
+        deleted += objects[number].deletions == 1;
+    CHECK(deleted, made);
+}
+
+int main(void) {
+    unsigned refusals;
+    test_answers();
+    test_makings();
+    refusals = test_refusals();
+    test_threads(KEYS / 2, run);
+    test_threads(UINT64_MAX, run_makers);
+    if (failures > 0)
+        return 1;
+    printf("clock: %u requests for memory refused; %u values made, and each deleted once; %u waits "
+           "for a maker, and %u values for their makers alone\n",
+           refusals, (unsigned)next_object, (unsigned)waits, (unsigned)lone_values);
+    return 0;
+}

@@ -1,0 +1,974 @@
+// Tests lru::ClockCache: what each member answers and throws, with one thread and with some that
+// wait; that nothing is lost where memory is refused; and a stress of eight threads, in which each
+// value must be deleted once, none while it is held, and none be found under another key.
+//
+// The linker puts the functions below before those of the C library (--wrap).
+#include <pthread.h>
+#include <sys/wait.h>
+#include <unistd.h>
+
+#include <atomic>
+#include <chrono>
+#include <condition_variable>
+#include <csignal>
+#include <cstddef>
+#include <cstdint>
+#include <cstdio>
+#include <cstdlib>
+#include <functional>
+#include <future>
+#include <memory>
+#include <mutex>
+#include <new>
+#include <optional>
+#include <set>
+#include <stdexcept>
+#include <string>
+#include <thread>
+#include <type_traits>
+#include <utility>
+#include <vector>
+
+#include "check.hpp"
+#include "deleted_once.hpp"
+#include "lru_clock.hpp"
+#include "random_calls.hpp"
+
+// Which request for memory is refused, counted down, and whether all are that come later too. Only
+// one thread asks for memory while this is above 0.
+static std::atomic<long> refused{0};
+static std::atomic<bool> are_all_refused{false};
+
+static bool is_refused() { return are_all_refused || (refused > 0 && --refused == 0); }
+
+extern "C" {
+void* __real_malloc(std::size_t size);
+void* __real_realloc(void* block, std::size_t size);
+void* __wrap_malloc(std::size_t size) { return is_refused() ? nullptr : __real_malloc(size); }
+void* __wrap_realloc(void* block, std::size_t size) {
+  return is_refused() ? nullptr : __real_realloc(block, size);
+}
+}
+
+// Not inlined, as gcc would take them for mismatched.
+[[gnu::noinline]] void* operator new(std::size_t size) {
+  void* const at = std::malloc(size);
+  if (at == nullptr) throw std::bad_alloc();
+  return at;
+}
+[[gnu::noinline]] void operator delete(void* at) noexcept { std::free(at); }
+[[gnu::noinline]] void operator delete(void* at, std::size_t) noexcept { std::free(at); }
+[[gnu::noinline]] void* operator new[](std::size_t size, std::align_val_t align,
+                                       const std::nothrow_t&) noexcept {
+  return is_refused() ? nullptr : std::aligned_alloc(static_cast<std::size_t>(align), size);
+}
+[[gnu::noinline]] void operator delete[](void* at, std::align_val_t) noexcept { std::free(at); }
+
+namespace {
+
+using Numbers = lru::ClockCache<const int, std::uint64_t>;
+constexpr std::size_t kOne = 1;  // shard
+
+static_assert(std::is_nothrow_move_constructible_v<Numbers::Handle>);
+static_assert(std::is_nothrow_move_assignable_v<Numbers::Handle>);
+static_assert(!std::is_copy_constructible_v<Numbers::Handle>);
+static_assert(!std::is_copy_assignable_v<Numbers::Handle>);
+static_assert(std::is_nothrow_move_constructible_v<Numbers::Maker>);
+static_assert(std::is_nothrow_move_assignable_v<Numbers::Maker>);
+static_assert(!std::is_copy_constructible_v<Numbers::Maker>);
+static_assert(!std::is_move_constructible_v<Numbers>);
+
+auto returns(int number) {
+  return [number](std::uint64_t) { return number; };
+}
+
+template <class Exception, class Call>
+bool throws(Call call) {
+  try {
+    call();
+  } catch (const Exception&) {
+    return true;
+  }
+  return false;
+}
+
+struct Failed {};
+
+// Counts as wrong if it is deleted twice.
+struct Once : Object {
+  using Object::Object;
+  ~Once() { wrong += !there.exchange(false); }
+};
+
+using Objects = lru::ClockCache<Once, std::uint64_t>;
+
+auto makes(std::uint64_t number) {
+  return [number](std::uint64_t) { return number; };
+}
+
+// The values that keys find, as "key=value*charge", in the order of the keys.
+template <class Cache>
+std::string shown(const Cache& cache) {
+  std::set<std::string> all;
+  cache.for_each([&](std::uint64_t key, int value, std::uint64_t charge) {
+    all.insert(std::to_string(key) + "=" + std::to_string(value) + "*" + std::to_string(charge));
+  });
+  std::string text;
+  for (const std::string& one : all) text += one + " ";
+  return text;
+}
+
+void a_present_value_is_not_made_again() {
+  Numbers cache(10);
+  CHECK(!cache.get(1) && !cache.contains(1));
+  CHECK(*cache.get_or_init(1, 1, returns(1)) == 1);
+  CHECK(*cache.get_or_init(2, 2, returns(2)) == 2);
+  CHECK(*cache.get_or_init(1, 5, returns(3)) == 1);
+  CHECK(*cache.get(1) == 1 && cache.contains(2) && !cache.get(3));
+  CHECK(cache.total_charge() == 3 && cache.len() == 2 && cache.pinned_charge() == 0);
+  CHECK(shown(cache) == "1=1*1 2=2*2 ");
+}
+
+void a_handle_pins_its_value() {
+  Numbers cache(2, kOne);
+  auto one = cache.get_or_init(1, 2, returns(1));
+  const auto two = cache.get_or_init(2, 2, returns(2));
+  CHECK(cache.pinned_charge() == 4 && cache.total_charge() == 4 && cache.capacity() == 2);
+  cache.prune();
+  CHECK(*one == 1 && *two == 2 && *cache.get(1) == 1 && cache.len() == 2);
+  // The end of a handle evicts nothing, but the next call that adds a value does.
+  one.reset();
+  CHECK(!one && one.get() == nullptr && cache.len() == 2 && cache.pinned_charge() == 2);
+  cache.insert(3, 1, 3);
+  CHECK(!cache.get(1) && *cache.get(2) == 2 && *cache.get(3) == 3 && cache.total_charge() == 3);
+}
+
+void a_value_that_was_made_evicts() {
+  Numbers cache(5, kOne);
+  cache.get_or_init(1, 3, returns(1));
+  cache.get_or_init(2, 2, returns(2));
+  const auto held = cache.get(2);
+  cache.get_or_init(3, 3, returns(3));
+  CHECK(!cache.get(1) && cache.get(3) && cache.total_charge() == 5);
+  // Not before it has been made.
+  auto maker = cache.begin(4, 1).maker;
+  CHECK(cache.total_charge() == 5 && cache.contains(3));
+  maker.ready(4);
+  CHECK(!cache.get(3) && *cache.get(4) == 4 && *held == 2 && cache.total_charge() == 3);
+}
+
+void handles_are_moved_and_cloned() {
+  Numbers cache(10);
+  auto one = cache.get_or_init(1, 1, returns(1));
+  Numbers::Handle none, moved = std::move(one);
+  CHECK(!one && one.get() == nullptr && !none.clone() && !one.clone() && *moved == 1);
+  auto& same = moved;
+  moved = std::move(same);
+  CHECK(*moved == 1);
+  auto clone = moved.clone();
+  CHECK(clone.get() == moved.get() && clone.operator->() == moved.get());
+  moved = cache.insert(2, 1, 2);
+  CHECK(*moved == 2 && *clone == 1 && cache.pinned_charge() == 2);
+  swap(moved, clone);
+  CHECK(*moved == 1 && *clone == 2);
+  moved.reset();
+  moved.reset();
+  CHECK(cache.pinned_charge() == 1);
+  clone = {};
+  CHECK(cache.pinned_charge() == 0 && cache.len() == 2);
+}
+
+void a_handle_outlives_what_its_key_finds() {
+  {
+    Objects cache(10, kOne);
+    auto old = cache.get_or_init(1, 2, makes(1));
+    auto replaced = cache.insert(1, 3, std::uint64_t{1});
+    CHECK(old.get() != replaced.get() && cache.get(1).get() == replaced.get());
+    CHECK(cache.len() == 2 && cache.total_charge() == 5 && alive == 2);
+    auto clone = old.clone();
+    CHECK(clone.get() == old.get());
+    old.reset();
+    CHECK(alive == 2 && clone->key == 1);
+    // The last handle of a value that was replaced deletes it.
+    clone.reset();
+    CHECK(alive == 1 && cache.len() == 1 && cache.total_charge() == 3);
+    cache.invalidate(1);
+    CHECK(!cache.get(1) && replaced->key == 1 && alive == 1 && cache.pinned_charge() == 3);
+    std::uint64_t visits = 0;
+    cache.for_each([&](auto&&...) { visits++; });
+    CHECK(visits == 0 && cache.erase_if([](auto&&...) { return true; }) == 0);
+    const auto again = cache.get_or_init(1, 1, makes(1));
+    cache.invalidate(2);
+    replaced.reset();
+    CHECK(alive == 1 && cache.get(1).get() == again.get());
+  }
+  CHECK(alive == 0);
+}
+
+void a_reader_runs_without_the_lock() {
+  Numbers cache(10, kOne);
+  cache.insert(1, 1, 5);
+  const auto twice = [&](int number) { return *cache.insert(2, 1, number) + *cache.get(1); };
+  CHECK(cache.read(1, twice) == 10 && cache.read(3, twice) == std::nullopt);
+  int sum = 0;
+  CHECK(cache.read(2, [&](int number) { sum += number; }));
+  CHECK(!cache.read(3, [&](int number) { sum += number; }) && sum == 5);
+  CHECK(throws<Failed>([&] { cache.read(1, [](int) -> int { throw Failed(); }); }));
+  CHECK(cache.pinned_charge() == 0);
+}
+
+void a_making_that_fails_leaves_nothing() {
+  {
+    Objects cache(10, kOne);
+    CHECK(throws<Failed>(
+        [&] { cache.get_or_init(1, 1, [](std::uint64_t) -> std::uint64_t { throw Failed(); }); }));
+    CHECK(cache.len() == 0 && cache.total_charge() == 0 && alive == 0);
+    CHECK(cache.get_or_init(1, 1, makes(1))->key == 1);
+  }
+  CHECK(alive == 0);
+}
+
+void bad_charges_are_refused() {
+  Numbers cache(10, kOne);
+  int calls = 0;
+  const auto init = [&](std::uint64_t) { return calls++; };
+  CHECK(throws<lru::ZeroCharge>([&] { cache.get_or_init(1, 0, init); }));
+  CHECK(throws<lru::ZeroCharge>([&] { cache.begin(1, 0); }));
+  CHECK(throws<lru::ZeroCharge>([&] { cache.try_begin(1, 0); }));
+  CHECK(throws<lru::ZeroCharge>([&] { cache.insert(1, 0, 1); }));
+  cache.insert(1, 1, 1);
+  CHECK(throws<lru::ZeroCharge>([&] { cache.get_or_init(1, 0, init); }));
+  CHECK(throws<lru::ZeroCharge>([&] { cache.insert(1, 0, 2); }));
+  CHECK(throws<lru::Overflow>([&] { cache.get_or_init(2, UINT64_MAX, init); }));
+  CHECK(throws<lru::Overflow>([&] { cache.begin(2, UINT64_MAX); }));
+  CHECK(throws<lru::Overflow>([&] { cache.insert(1, UINT64_MAX, 2); }));
+  CHECK(calls == 0 && shown(cache) == "1=1*1 " && cache.pinned_charge() == 0);
+  // A charge that overflows by the time that the value was made.
+  auto maker = cache.begin(2, UINT64_MAX - 5).maker;
+  const auto held = cache.insert(3, 10, 3);
+  CHECK(throws<lru::Overflow>([&] { maker.ready(2); }));
+  CHECK(!maker && !cache.get(2) && *held == 3);
+  CHECK(*cache.get_or_init(2, 1, returns(4)) == 4);
+}
+
+void makers_make_values() {
+  Numbers cache(10, kOne);
+  auto begun = cache.begin(1, 2);
+  Numbers::Handle& handle = begun.handle;
+  Numbers::Maker& maker = begun.maker;
+  CHECK(!handle && maker && cache.len() == 0 && !cache.get(1) && !cache.contains(1));
+  auto other = cache.try_begin(1, 1);
+  CHECK(!other.handle && !other.maker);
+  Numbers::Maker moved = std::move(maker), more = cache.begin(2, 1).maker;
+  CHECK(!maker && moved && throws<std::logic_error>([&] { maker.ready(1); }));
+  maker.fail();
+  more = std::move(moved);
+  CHECK(cache.try_begin(2, 1).maker);
+  handle = more.ready(1);
+  CHECK(!more && *handle == 1 && cache.total_charge() == 2 && cache.pinned_charge() == 2);
+  other = cache.try_begin(1, 1);
+  CHECK(!other.maker && other.handle.get() == handle.get());
+  CHECK(cache.begin(1, 1).handle.get() == handle.get());
+  { const auto left = cache.begin(3, 1); }
+  CHECK(cache.begin(3, 1).maker && cache.len() == 1);
+}
+
+void a_maker_keeps_its_duty_if_its_value_throws() {
+  struct Picky {
+    explicit Picky(bool fails) {
+      if (fails) throw Failed();
+    }
+  };
+  lru::ClockCache<Picky, int> cache(10);
+  auto maker = cache.begin(1, 1).maker;
+  CHECK(throws<Failed>([&] { maker.ready(true); }));
+  CHECK(maker && !cache.try_begin(1, 1).maker && maker.ready(false));
+}
+
+// A value that was made after its key was taken away is its maker's alone.
+void a_key_is_taken_from_its_maker() {
+  const auto takes = [](auto take, bool has_other) {
+    {
+      Objects cache(100, kOne);
+      cache.insert(7, 1, std::uint64_t{7});
+      auto begun = cache.begin(1, 1).maker;
+      take(cache);
+      auto maker = std::move(begun);
+      auto second = cache.try_begin(1, 1);
+      CHECK(static_cast<bool>(second.handle) == has_other);
+      CHECK(static_cast<bool>(second.maker) == !has_other);
+      auto alone = maker.ready(std::uint64_t{1});
+      CHECK(alone->key == 1 && static_cast<bool>(cache.get(1)) == has_other);
+      std::uint64_t visits = 0;
+      cache.for_each([&](std::uint64_t key, auto&&...) { visits += key == 1; });
+      CHECK(visits == (has_other ? 1 : 0));
+      if (second.maker) second.handle = second.maker.ready(std::uint64_t{1});
+      CHECK(cache.get(1).get() == second.handle.get() && alone.get() != second.handle.get());
+      const std::int64_t before = alive;
+      alone.reset();
+      CHECK(alive == before - 1 && cache.contains(1));
+      // A maker that fails after that changes nothing.
+      auto last = cache.begin(2, 1).maker;
+      take(cache);
+      last.fail();
+      CHECK(!cache.get(2));
+    }
+    CHECK(alive == 0);
+  };
+  takes([](Objects& cache) { cache.invalidate(1); }, false);
+  takes([](Objects& cache) { cache.clear(); }, false);
+  takes([](Objects& cache) { cache.insert(1, 1, std::uint64_t{1}); }, true);
+}
+
+void an_insert_replaces() {
+  {
+    Objects cache(4, kOne);
+    for (std::uint64_t n = 0; n < 4; n++) cache.insert(n, 1, n);
+    CHECK(cache.len() == 4 && alive == 4);
+    cache.insert(2, 2, std::uint64_t{2});
+    CHECK(cache.len() == 3 && cache.total_charge() == 4 && alive == 3);
+    // What has no room beside what is pinned is inserted all the same.
+    const auto large = cache.insert(5, 9, std::uint64_t{5});
+    CHECK(cache.len() == 1 && cache.total_charge() == 9);
+    cache.insert(6, 1, std::uint64_t{6});
+    CHECK(cache.total_charge() == 10 && cache.get(5).get() == large.get());
+  }
+  CHECK(alive == 0);
+}
+
+void values_leave_by_prune_clear_and_erase_if() {
+  {
+    Objects cache(1000);
+    const auto fill = [&] {
+      for (std::uint64_t n = 0; n < 50; n++) cache.insert(n, 1 + n % 2, n);
+    };
+    fill();
+    auto held = cache.get(7);
+    CHECK(cache.total_charge() == 75);
+    cache.prune();
+    CHECK(cache.len() == 1 && alive == 1 && cache.get(7).get() == held.get());
+    fill();
+    CHECK(alive == 51 && cache.get(7).get() != held.get());
+    const auto is_small = [](std::uint64_t key, const Once& once, std::uint64_t charge) {
+      wrong += once.key != key;
+      return charge == 1;
+    };
+    CHECK(cache.erase_if(is_small) == 25 && cache.len() == 26 && alive == 26);
+    CHECK(!cache.get(8) && cache.get(9)->key == 9);
+    int calls = 0;
+    CHECK(throws<Failed>([&] {
+      cache.erase_if([&](auto&&...) {
+        if (++calls == 20) throw Failed();
+        return false;
+      });
+    }));
+    CHECK(cache.len() == 26 && cache.pinned_charge() == 2);
+    CHECK(throws<Failed>([&] { cache.for_each([](auto&&...) { throw Failed(); }); }));
+    CHECK(cache.pinned_charge() == 2);
+    auto other = cache.get(9);
+    cache.clear();
+    CHECK(cache.len() == 2 && alive == 2 && !cache.get(9) && other->key == 9 && held->key == 7);
+    other.reset();
+    CHECK(cache.len() == 1 && alive == 1);
+  }
+  CHECK(alive == 0 && wrong == 0);
+}
+
+void a_predicate_that_throws_erases_nothing_of_its_shard() {
+  Numbers cache(100, kOne);
+  for (std::uint64_t n = 0; n < 9; n++) cache.insert(n, 1, 1);
+  int calls = 0;
+  CHECK(throws<Failed>([&] {
+    cache.erase_if([&](auto&&...) {
+      if (++calls == 9) throw Failed();
+      return true;
+    });
+  }));
+  CHECK(cache.len() == 9 && cache.pinned_charge() == 0);
+}
+
+void the_capacity_is_shared_and_set() {
+  Numbers cache(30, std::size_t{16});
+  CHECK(cache.capacity() == 32 && cache.shards() == 16 && Numbers(10).shards() == 1);
+  CHECK(Numbers(512).shards() == 16 && Numbers(512, lru::TypicalCharge(4)).shards() == 4);
+  CHECK(Numbers(UINT64_MAX, std::size_t{3}).capacity() == UINT64_MAX);
+  CHECK(throws<std::invalid_argument>([] { Numbers(1, std::size_t{0}); }));
+  CHECK(throws<std::invalid_argument>([] { Numbers(1, std::size_t{1} << 32); }));
+  cache.set_capacity(1600);
+  for (std::uint64_t n = 0; n < 160; n++) cache.insert(n, 1, 1);
+  CHECK(cache.len() == 160 && cache.capacity() == 1600);
+  auto held = cache.get(0);
+  cache.set_capacity(0);
+  CHECK(cache.len() == 1 && cache.capacity() == 0 && *held == 1);
+}
+
+// Each shard has an eighth of the capacity more than its share of the keys.
+void keys_are_spread_evenly() {
+  using Cache = lru::ClockCache<int, lru::Words>;
+  constexpr std::uint64_t kKeys = 20000;
+  const auto spreads = [](auto key_of) {
+    Cache cache(kKeys + kKeys / 8, lru::Seed(0));
+    for (std::uint64_t n = 0; n < kKeys; n++) cache.insert(key_of(n), 1, 1);
+    return cache.len() == kKeys;
+  };
+  CHECK(spreads([](std::uint64_t n) { return lru::Words{0, n}; }));
+  CHECK(spreads([](std::uint64_t n) { return lru::Words{n, 0}; }));
+  CHECK(spreads([](std::uint64_t n) { return lru::Words{7, n * 4096}; }));
+  CHECK(spreads([](std::uint64_t n) { return lru::Words{n << 48, n << 32}; }));
+  CHECK(spreads([](std::uint64_t n) { return lru::Words{n % 100, n / 100}; }));
+}
+
+enum class Color : std::int8_t { kRed = -1, kBlue = 2 };
+
+struct Block {
+  std::uint64_t file;
+  std::uint64_t offset;
+};
+
+}  // namespace
+
+template <>
+struct lru::Key<Block> {
+  static lru::Words written(const Block& block) {
+    if (block.file == 0) throw Failed();
+    return {block.file, block.offset};
+  }
+};
+
+namespace {
+
+void keys_are_of_any_type_that_is_written_as_words() {
+  lru::ClockCache<int, Color> colors(10);
+  colors.insert(Color::kRed, 1, 1);
+  CHECK(*colors.get(Color::kRed) == 1 && !colors.get(Color::kBlue));
+  colors.for_each([](Color color, int, std::uint64_t) { CHECK(color == Color::kRed); });
+  using Pair = std::pair<std::int32_t, bool>;
+  lru::ClockCache<int, Pair> pairs(10);
+  pairs.insert(Pair(-5, true), 1, 1);
+  CHECK(pairs.contains(Pair(-5, true)) && !pairs.contains(Pair(-5, false)));
+  CHECK(pairs.erase_if([](const Pair& pair, int, auto) { return pair == Pair(-5, true); }) == 1);
+  // A key that cannot be written leaves everything as it is.
+  lru::ClockCache<int, Block> blocks(10);
+  blocks.insert({1, 2}, 1, 1);
+  CHECK(throws<Failed>([&] { blocks.insert({0, 2}, 1, 1); }));
+  CHECK(throws<Failed>([&] { blocks.get_or_init({0, 2}, 1, [](const Block&) { return 1; }); }));
+  blocks.for_each([](lru::Words key, int, std::uint64_t) { CHECK((key == lru::Words{1, 2})); });
+  CHECK(blocks.len() == 1 && blocks.pinned_charge() == 0);
+}
+
+void values_may_be_neither_movable_nor_copyable() {
+  lru::ClockCache<std::atomic<int>, int> counters(10);
+  const auto counter = counters.get_or_init(1, 1, [](int n) { return n; });
+  (*counter)++;
+  CHECK(*counters.get(1) == 2);
+  lru::ClockCache<std::unique_ptr<int>, int> owners(10);
+  CHECK(**owners.insert(1, 1, std::make_unique<int>(3)) == 3);
+}
+
+// A value whose destructor makes a call.
+struct Caller {
+  explicit Caller(std::function<void()> c) : call(std::move(c)) {}
+  ~Caller() { call(); }
+
+  Caller(const Caller&) = delete;
+  Caller& operator=(const Caller&) = delete;
+
+  std::function<void()> call;
+};
+
+void a_destructor_may_call_the_cache() {
+  using Cache = lru::ClockCache<Caller, int>;
+  Cache cache(2, kOne);
+  int deleted = 0;
+  const auto insert = [&](int key) {
+    return cache.insert(key, 1, [&] { deleted++, cache.get(1), cache.invalidate(3); });
+  };
+  for (int key = 1; key <= 3; key++) insert(key);
+  CHECK(deleted >= 1);
+  insert(3);
+  cache.invalidate(3);
+  auto held = insert(4);
+  cache.invalidate(4);
+  const int before = deleted;
+  held.reset();
+  CHECK(deleted == before + 1);
+  cache.clear();
+  CHECK(cache.len() == 0 && deleted == 5);
+}
+
+// ------------------------------------------------------------------------------ how threads wait
+
+// What a thread that waits would do if nobody woke it.
+template <class Result>
+Result in_time(std::future<Result> future) {
+  if (future.wait_for(std::chrono::seconds(20)) != std::future_status::ready) {
+    std::puts("clock_cache: a thread waits that nobody wakes");
+    std::fflush(stdout);
+    std::_Exit(1);
+  }
+  return future.get();
+}
+
+// A thread that asks for a key, and which is given time to begin to wait.
+template <class Ask>
+auto asks(Ask ask) {
+  auto future = std::async(std::launch::async, ask);
+  std::this_thread::sleep_for(std::chrono::milliseconds(20));
+  return future;
+}
+
+void others_wait_for_one_making() {
+  Numbers cache(10, kOne);
+  auto maker = cache.begin(1, 1).maker;
+  auto first = asks([&] { return *cache.get_or_init(1, 2, returns(2)); });
+  auto second = asks([&] { return *cache.begin(1, 2).handle; });
+  auto third = std::move(maker);
+  third.ready(1);
+  CHECK(in_time(std::move(first)) == 1 && in_time(std::move(second)) == 1);
+  CHECK(shown(cache) == "1=1*1 ");
+}
+
+void one_that_waits_makes_what_another_failed_to() {
+  Numbers cache(10, kOne);
+  auto maker = cache.begin(1, 1).maker;
+  std::atomic<int> made{0};
+  const auto ask = [&] {
+    return *cache.get_or_init(1, 2, [&](std::uint64_t) { return 10 + made++; });
+  };
+  auto first = asks(ask);
+  auto second = asks(ask);
+  auto other = asks([&] { return *cache.get_or_init(2, 2, returns(2)); });
+  CHECK(in_time(std::move(other)) == 2);
+  maker.fail();
+  CHECK(in_time(std::move(first)) == 10 && in_time(std::move(second)) == 10 && made == 1);
+  CHECK(shown(cache) == "1=10*2 2=2*2 ");
+}
+
+void who_waits_for_a_key_that_is_taken_away_goes_on() {
+  const auto goes_on = [](auto take, int expected) {
+    Numbers cache(10, kOne);
+    auto maker = cache.begin(1, 1).maker;
+    auto waits = asks([&] { return *cache.get_or_init(1, 2, returns(2)); });
+    take(cache);
+    CHECK(in_time(std::move(waits)) == expected);
+    CHECK(*maker.ready(1) == 1 && *cache.get(1) == expected);
+  };
+  goes_on([](Numbers& cache) { cache.invalidate(1); }, 2);
+  goes_on([](Numbers& cache) { cache.clear(); }, 2);
+  goes_on([](Numbers& cache) { cache.insert(1, 1, 3); }, 3);
+}
+
+// --------------------------------------------------------------------------------------- threads
+
+// The first call of a thread on a shard finds what is there, and so does the last handle of one.
+void a_new_thread_finds_and_releases() {
+  {
+    Objects cache(100, std::size_t{5});
+    for (std::uint64_t n = 0; n < 20; n++) cache.insert(n, 1, n);
+    for (std::uint64_t n = 0; n < 20; n++) {
+      auto held = cache.get(n);
+      cache.invalidate(n);
+      auto kept = cache.insert(n, 1, n);
+      std::thread([&, handle = std::move(held)]() mutable {
+        CHECK(handle->key == n && handle.clone().get() == handle.get());
+        handle.reset();
+        CHECK(cache.get(n).get() == kept.get());
+      }).join();
+      CHECK(cache.pinned_charge() == 1);
+    }
+    CHECK(alive == 20);
+  }
+  CHECK(alive == 0);
+}
+
+// A look-up without the lock may miss a value while it is replaced, and then looks again.
+void a_key_that_is_replaced_always_has_a_value() {
+  {
+    Objects cache(100, kOne);
+    cache.insert(1, 1, std::uint64_t{1});
+    std::atomic<bool> is_done{false};
+    std::atomic<std::uint64_t> missing{0};
+    std::vector<std::thread> threads;
+    for (int t = 0; t < 3; t++) {
+      threads.emplace_back([&] {
+        do {
+          missing += !cache.get(1);
+          cache.get_or_init(1, 1, [&](std::uint64_t n) {
+            missing++;
+            return n;
+          });
+        } while (!is_done);
+      });
+    }
+    for (int n = 0; n < 30000; n++) cache.insert(1, 1, std::uint64_t{1});
+    is_done = true;
+    for (std::thread& thread : threads) thread.join();
+    CHECK(missing == 0 && cache.len() == 1);
+  }
+  CHECK(alive == 0 && wrong == 0);
+}
+
+// The threads have the least numbers that are free, and each has readers of its own, in lines of
+// its own.
+void threads_have_numbers_and_lanes() {
+  constexpr std::size_t kAtOnce = 40, kShards = 5;
+  Numbers cache(1000, kShards);
+  for (std::uint64_t n = 0; n < 100; n++) cache.insert(n, 1, static_cast<int>(n));
+  lru::detail::Lanes lanes(kShards);
+  for (int round = 0; round < 2; round++) {
+    std::mutex mutex;
+    std::condition_variable condition;
+    std::set<std::uint32_t> numbers{lru::detail::ThreadNumbers::mine()};
+    std::set<const lru_reader*> readers;
+    std::set<std::uintptr_t> lines;
+    std::size_t pairs = 0;  // of a thread and a line
+    std::vector<std::thread> threads;
+    for (std::size_t t = 0; t < kAtOnce; t++) {
+      threads.emplace_back([&] {
+        for (std::uint64_t n = 0; n < 100; n++) {
+          const auto found = cache.get(n);
+          if (!found || *found != static_cast<int>(n)) wrong++;
+        }
+        std::unique_lock<std::mutex> lock(mutex);
+        std::set<std::uintptr_t> mine;
+        for (std::size_t shard = 0; shard < kShards; shard++) {
+          const lru_reader* const reader = lanes.mine(shard);
+          if (reader != lanes.mine(shard)) wrong++;
+          readers.insert(reader);
+          mine.insert(reinterpret_cast<std::uintptr_t>(reader) / 64);
+        }
+        lines.insert(mine.begin(), mine.end());
+        pairs += mine.size();
+        numbers.insert(lru::detail::ThreadNumbers::mine());
+        condition.notify_all();
+        condition.wait(lock, [&] { return numbers.size() == kAtOnce + 1; });
+      });
+    }
+    for (std::thread& thread : threads) thread.join();
+    CHECK(*numbers.rbegin() == kAtOnce && wrong == 0);
+    CHECK(readers.size() == kAtOnce * kShards && lines.size() == pairs);
+  }
+}
+
+// A thread that has given back its number, as it is about to end, goes on under the lock. The last
+// handles that it destroys are those of a key that is younger than the key of its number.
+void a_thread_that_is_about_to_end_goes_on() {
+  {
+    Objects cache(100, kOne);
+    cache.insert(1, 1, std::uint64_t{1});
+    pthread_key_t key;
+    CHECK(pthread_key_create(&key, [](void* at) {
+            auto* const handle = static_cast<Objects::Handle*>(at);
+            const bool has_number =
+                lru::detail::ThreadNumbers::mine() != lru::detail::NumberedThread::kNone;
+            if (has_number || handle->clone().get() != handle->get()) wrong++;
+            delete handle;
+          }) == 0);
+    std::thread([&] {
+      CHECK(pthread_setspecific(key, new Objects::Handle(cache.get(1))) == 0);
+    }).join();
+    CHECK(pthread_key_delete(key) == 0 && cache.pinned_charge() == 0 && wrong == 0);
+  }
+  CHECK(alive == 0);
+}
+
+// ------------------------------------------------------------------------------- refused memory
+
+// Calls of all kinds, where one request for memory is refused: a call that throws is repeated, and
+// then answers as if memory were ample. Returns whether that request was made.
+bool goes_on_if_one_is_refused(long which) {
+  constexpr std::uint64_t kEntries = 150;
+  std::optional<Objects> cache;
+  const auto repeated = [](auto call) {
+    try {
+      return call();
+    } catch (const std::bad_alloc&) {
+      return call();
+    }
+  };
+  refused = which;
+  repeated([&] { cache.emplace(kEntries, lru::Seed(0), std::size_t{2}); });
+  for (std::uint64_t n = 0; n < kEntries; n++) {
+    auto made = repeated([&] { return cache->get_or_init(n, 1, makes(n)); });
+    CHECK(made->key == n && cache->get(n).get() == made.get());
+    if (n % 3 != 0) continue;
+    const auto inserted = repeated([&] { return cache->insert(n, 1, n); });
+    CHECK(inserted->key == n && cache->get(n).get() == inserted.get());
+    made.reset();
+    auto maker = repeated([&] { return cache->begin(n + kEntries, 1).maker; });
+    // A cache that has refused the value has ended the making.
+    try {
+      maker.ready(n + kEntries);
+    } catch (const std::bad_alloc&) {
+      if (!maker) maker = cache->begin(n + kEntries, 1).maker;
+      maker.ready(n + kEntries);
+    }
+    CHECK(repeated([&] { return cache->contains(n + kEntries); }));
+  }
+  CHECK(static_cast<std::uint64_t>(alive) == cache->len() && cache->pinned_charge() == 0);
+  repeated([&] { cache->erase_if([](auto&&...) { return true; }); });
+  CHECK(cache->len() == 0 && alive == 0);
+  const bool was_made = refused == 0;
+  refused = 0;
+  return was_made;
+}
+
+long one_request_is_refused() {
+  long which = 1;
+  while (goes_on_if_one_is_refused(which)) which++;
+  CHECK(wrong == 0 && alive == 0);
+  return which - 1;
+}
+
+// A thread without a reader finds, clones and releases where no memory is left at all.
+void a_thread_without_a_reader_goes_on() {
+  {
+    Objects cache(100, kOne);
+    cache.insert(1, 1, std::uint64_t{1});
+    auto held = cache.insert(2, 1, std::uint64_t{2});
+    cache.invalidate(2);
+    std::thread([&, handle = std::move(held)]() mutable {
+      are_all_refused = true;
+      const bool found = cache.get(1) && cache.get(1)->key == 1 && cache.contains(1) &&
+                         !cache.get(2) && cache.get_or_init(1, 1, makes(9))->key == 1;
+      const bool is_cloned = handle.clone().get() == handle.get();
+      handle.reset();
+      const bool is_out = throws<std::bad_alloc>([&] { cache.get_or_init(3, 1, makes(3)); });
+      are_all_refused = false;
+      CHECK(found && is_cloned && is_out && alive == 1);
+      CHECK(cache.get_or_init(3, 1, makes(3))->key == 3);
+    }).join();
+    CHECK(cache.len() == 2 && cache.pinned_charge() == 0);
+    // With lanes that have no room, on a thread that has a number.
+    std::thread([] {
+      Objects other(100, kOne);
+      other.insert(1, 1, std::uint64_t{1});
+    }).join();
+    are_all_refused = true;
+    const bool is_found = cache.get(1)->key == 1;
+    are_all_refused = false;
+    CHECK(is_found);
+  }
+  CHECK(alive == 0 && wrong == 0);
+}
+
+// ---------------------------------------------------------------------------------------- stress
+
+constexpr std::uint64_t kThreads = 8, kTurns = 20000, kKeys = 300, kFixed = 16;
+
+// Handles that any thread may put and take.
+struct Exchange {
+  Objects::Handle exchange(Objects::Handle handle, std::uint64_t slot) {
+    const std::lock_guard<std::mutex> lock(mutex);
+    swap(handle, handles[slot]);
+    return handle;
+  }
+
+  std::mutex mutex;
+  Objects::Handle handles[16];
+};
+
+void is_right(const Objects::Handle& handle, std::uint64_t key) {
+  if (handle && (handle->key != key || !handle->there)) wrong++;
+}
+
+void take_turns(Objects& cache, Exchange& exchange, std::uint64_t seed) {
+  Random random(seed);
+  Objects::Handle held[4];
+  const auto fails = [](std::uint64_t) -> std::uint64_t { throw Failed(); };
+  for (std::uint64_t turn = 0; turn < kTurns; turn++) {
+    const std::uint64_t n = kFixed + random.below(kKeys);
+    Objects::Handle& slot = held[random.below(4)];
+    switch (random.below(32)) {
+      case 0:
+        cache.invalidate(n);
+        break;
+      case 1:
+      case 2:
+      case 3:
+        is_right(slot = cache.insert(n, 1 + random.below(3), n), n);
+        break;
+      case 4:
+        if (slot) slot = slot.clone();
+        break;
+      case 5:
+      case 6:
+      case 7:
+        slot = exchange.exchange(std::move(slot), random.below(16));
+        break;
+      case 8:
+        if (random.below(20) == 0) cache.set_capacity(kKeys / 2 + random.below(kKeys));
+        break;
+      case 9:
+        if (random.below(100) == 0) {
+          cache.for_each([](std::uint64_t key, const Once& once, std::uint64_t charge) {
+            if (once.key != key || !once.there || charge == 0) wrong++;
+          });
+        }
+        break;
+      case 10:
+        if (random.below(100) == 0) {
+          cache.erase_if([&](std::uint64_t key, const Once& once, std::uint64_t) {
+            if (once.key != key || !once.there) wrong++;
+            return key >= kFixed && key % 16 == n % 16;
+          });
+        }
+        break;
+      case 11:
+        if (random.below(100) == 0) cache.prune();
+        break;
+      case 12: {
+        auto begun = cache.try_begin(n, 1);
+        if (begun.maker && random.below(2) == 0) begun.handle = begun.maker.ready(n);
+        is_right(begun.handle, n);
+        break;
+      }
+      case 13:
+        try {
+          is_right(cache.get_or_init(n, 1, fails), n);
+        } catch (const Failed&) {
+        }
+        break;
+      case 14:
+      case 15:
+      case 16:
+      case 17:
+        // These are there all the time, whatever is written beside them.
+        if (!cache.contains(n % kFixed)) wrong++;
+        break;
+      case 18:
+      case 19:
+      case 20:
+        is_right(cache.get(n), n);
+        break;
+      default:
+        is_right(slot = cache.get_or_init(n, 1 + random.below(3), makes(n)), n);
+    }
+    for (const Objects::Handle& handle : held) {
+      if (handle && !handle->there) wrong++;
+    }
+    if (random.below(4) == 0) slot.reset();
+  }
+}
+
+void threads_use_a_cache(std::size_t shards) {
+  {
+    Objects cache(kKeys, shards);
+    std::vector<Objects::Handle> fixed;
+    for (std::uint64_t n = 0; n < kFixed; n++) fixed.push_back(cache.insert(n, 1, n));
+    Exchange exchange;
+    std::vector<std::thread> threads;
+    for (std::uint64_t t = 0; t < kThreads; t++) {
+      threads.emplace_back([&, t] { take_turns(cache, exchange, t + 1); });
+    }
+    for (std::thread& thread : threads) thread.join();
+    for (Objects::Handle& handle : exchange.handles) handle.reset();
+    CHECK(cache.pinned_charge() == kFixed);
+    cache.set_capacity(0);
+    CHECK(cache.len() == kFixed && alive == kFixed);
+  }
+  CHECK(alive == 0 && wrong == 0);
+}
+
+// -------------------------------------------------------------------------- the end of a cache
+
+// What a process that does this writes to standard error, if `abort` ends it.
+template <class Action>
+std::string last_words(Action action) {
+  int ends[2];
+  CHECK(pipe(ends) == 0);
+  const pid_t child = fork();
+  if (child == 0) {
+    dup2(ends[1], 2);
+    action();
+    _exit(0);
+  }
+  close(ends[1]);
+  std::string words;
+  char part[512];
+  for (ssize_t n; (n = read(ends[0], part, sizeof part)) > 0;) {
+    words.append(part, static_cast<std::size_t>(n));
+  }
+  close(ends[0]);
+  int status = 0;
+  CHECK(child > 0 && waitpid(child, &status, 0) == child);
+  return WIFSIGNALED(status) && WTERMSIG(status) == SIGABRT ? words : "";
+}
+
+bool has(const std::string& text, const char* part) { return text.find(part) != std::string::npos; }
+
+void a_handle_that_outlives_its_cache_is_asserted_against() {
+  const auto outlives = [](auto take) {
+    const std::string words = last_words([&] {
+      auto cache = std::make_unique<Numbers>(10);
+      cache->insert(1, 1, 1);
+      const auto taken = take(*cache);
+      cache.reset();
+      _exit(1);
+    });
+    return has(words, "lru: a handle or a maker outlives its cache");
+  };
+  CHECK(outlives([](Numbers& cache) { return cache.get(1); }));
+  CHECK(outlives([](Numbers& cache) { return cache.get(1).clone(); }));
+  CHECK(outlives([](Numbers& cache) { return cache.insert(1, 1, 2); }));
+  CHECK(outlives([](Numbers& cache) { return cache.begin(2, 1).maker; }));
+}
+
+void a_destructor_that_calls_a_cache_that_is_destroyed_is_told_the_rule() {
+  using Cache = lru::ClockCache<Caller, int>;
+  const auto names = [](auto call) {
+    const std::string words = last_words([&] {
+      const auto cache = std::make_unique<Cache>(100);
+      cache->begin(1, 1).maker.ready([&] { call(*cache); });
+      cache->~Cache();
+      _exit(1);
+    });
+    return has(words, "lru: the destructor of a value calls the cache that is destroyed");
+  };
+  CHECK(names([](Cache& cache) { cache.get(2); }));
+  CHECK(names([](Cache& cache) { cache.begin(2, 1); }));
+  CHECK(names([](Cache& cache) { cache.insert(2, 1, [] {}); }));
+  CHECK(names([](Cache& cache) { cache.read(2, [](const Caller&) {}); }));
+  CHECK(names([](Cache& cache) { cache.contains(2); }));
+  CHECK(names([](Cache& cache) { cache.invalidate(2); }));
+}
+
+}  // namespace
+
+int main() {
+  a_present_value_is_not_made_again();
+  a_handle_pins_its_value();
+  a_value_that_was_made_evicts();
+  handles_are_moved_and_cloned();
+  a_handle_outlives_what_its_key_finds();
+  a_reader_runs_without_the_lock();
+  a_making_that_fails_leaves_nothing();
+  bad_charges_are_refused();
+  makers_make_values();
+  a_maker_keeps_its_duty_if_its_value_throws();
+  a_key_is_taken_from_its_maker();
+  an_insert_replaces();
+  values_leave_by_prune_clear_and_erase_if();
+  a_predicate_that_throws_erases_nothing_of_its_shard();
+  the_capacity_is_shared_and_set();
+  keys_are_spread_evenly();
+  keys_are_of_any_type_that_is_written_as_words();
+  values_may_be_neither_movable_nor_copyable();
+  a_destructor_may_call_the_cache();
+  others_wait_for_one_making();
+  one_that_waits_makes_what_another_failed_to();
+  who_waits_for_a_key_that_is_taken_away_goes_on();
+  a_new_thread_finds_and_releases();
+  a_key_that_is_replaced_always_has_a_value();
+  threads_have_numbers_and_lanes();
+  a_thread_that_is_about_to_end_goes_on();
+  const long requests = one_request_is_refused();
+  a_thread_without_a_reader_goes_on();
+  threads_use_a_cache(1);
+  threads_use_a_cache(16);
+  a_handle_that_outlives_its_cache_is_asserted_against();
+  a_destructor_that_calls_a_cache_that_is_destroyed_is_told_the_rule();
+  CHECK(requests > 100);
+  std::printf("lru_clock.hpp: 32 tests, %d checks failed\n", failed_checks);
+  return failed_checks == 0 ? 0 : 1;
+}
