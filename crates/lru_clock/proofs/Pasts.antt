@@ -87,6 +87,10 @@ module _ {K V : Type 0} where
       let none : turns p pre.0 ≡ 0 = omega (arith, turns-append p xs pre.0, ap (turns p) pre.1, count) in
       sym (unchanged p (entry_at p xs) pre.0 none) ∙ (sym (entry_after-append p None xs pre.0) ∙ ap (entry_at p) pre.1)
 
+  one_entry : (p : ℕ) (xs ys : List (Event K V)) → turns p xs ≡ turns p ys → IsPrefix xs ys ⊎ IsPrefix ys xs → entry_at p xs ≡ entry_at p ys
+  one_entry p xs ys count (inl pre) = longer_same p xs ys pre count
+  one_entry p xs ys count (inr pre) = sym (longer_same p ys xs pre (sym count))
+
   -- a slot that has an event in a prefix has one in the whole
   pub still_begun : (p : ℕ) (xs ys : List (Event K V)) → IsPrefix xs ys → 0 < turns p xs → 0 < turns p ys
   still_begun p xs ys pre some = omega (arith, turns-append p xs pre.0, ap (turns p) pre.1, some)
@@ -305,6 +309,14 @@ module _ {K V : Type 0} where
         came = whole;
         there = sym (longer_same w.key (at.before ++ came ∷ []) seen whole (sym all)) ∙ comes w.key at.before came refl;
       }
+
+  -- two arrivals at one slot with one number are of one entry
+  pub one_arrival : (w : Named) (a b : Arrival K V) (e f : Entry K V) (zs : List (Event K V)) → Arrives w a e → Arrives w b f → a.number ≡ b.number → IsPrefix a.log.log zs → IsPrefix b.log.log zs → e ≡ f
+  one_arrival w a b e f zs at bt same one other =
+      let count : turns w.key a.log.log ≡ turns w.key b.log.log = at.count ∙ (same ∙ sym bt.count) in
+      let had : entry_at w.key a.log.log ≡ Some e = ap (entry_at w.key) at.last ∙ comes w.key at.before (event w.key at.skipped (Some e)) refl in
+      let has : entry_at w.key b.log.log ≡ Some f = ap (entry_at w.key) bt.last ∙ comes w.key bt.before (event w.key bt.skipped (Some f)) refl in
+      cc (had, has, one_entry w.key a.log.log b.log.log count (prefix_either a.log.log b.log.log zs one other))
 
 -- a property of each item of a list still holds if an item that has it is added
 pub each_push : {A : Type 0} (P : A → Type 0) (xs : List A) (y : A) → EachOf P xs → P y → EachOf P (xs ++ y ∷ [])

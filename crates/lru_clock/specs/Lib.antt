@@ -15,6 +15,7 @@ pub mod SeatChanges
 pub mod Searches
 pub mod History
 pub mod Arrivals
+pub mod Claims
 pub mod HistoryRule
 pub mod Hits
 pub mod Books

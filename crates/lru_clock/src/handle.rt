@@ -1,11 +1,12 @@
 //! Handles, each of which pins the value that it reads.
 //!
 //! Reading a handle acquires no lock. Dropping one seldom does: see its `Drop`.
-ghost use Rattle.std.specs.Prelude.{◌≡◌};
+ghost use Rattle.std.specs.Prelude.{◌≡◌, ◌≢◌, IfOk, IfErr};
 
 use crate::shard::Shard;
 use crate::store::{Pin, Released};
 use concurrent_lru::fit::{Anything, Fit};
+use concurrent_lru::sharded::Refusal;
 use concurrent_lru::shown::Shown;
 use std::fmt;
 use std::hash::Hash;
@@ -67,6 +68,30 @@ impl<'a, K: Hash + Eq + Clone, V, R: Wait, F: Fit<K, V>> CacheHandle<'a, K, V, R
         ensures fits { F.fits self.now.key result.now }
     {
         self.pin.value()
+    }
+}
+
+impl<'a, K: Hash + Eq + Clone + Drop, V: Drop, R: Wait, F: Fit<K, V>> CacheHandle<'a, K, V, R, F> {
+    /// Returns another handle of the same value, which pins its entry once more, even after an
+    /// `invalidate` of its key. No key is looked up, and this counts as no use of the entry.
+    /// Acquires no lock, and takes no memory.
+    ///
+    /// Returns `Overflow` if the entry has the maximum number of pins; then nothing is pinned.
+    pub fn try_clone(&self) -> Result<CacheHandle<'a, K, V, R, F>, Refusal>
+        ensures key { IfOk result (λ h. h.key ≡ self.now.key) }
+        ensures charge { IfOk result (λ h. h.charge ≡ self.now.charge) }
+        ensures value { IfOk result (λ h. h.value ≡ self.now.value) }
+        ensures fits { IfOk result (λ h. F.fits h.key h.value) }
+        ensures never_stale { IfErr result (λ e. e ≢ Refusal.Stale) }
+    {
+        let pin = self.pin.again(self.shard.core.most_pins)?;
+        Ok(CacheHandle {
+            rt: self.rt,
+            shard: self.shard,
+            place: self.place,
+            pin,
+            charge: self.charge.again(),
+        })
     }
 }
 

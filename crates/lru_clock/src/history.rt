@@ -12,6 +12,7 @@
 ghost use Rattle.std.specs.Prelude.{◌≡◌, ◌+◌, ◌<◌, ◌≤◌, ◌++◌, ◌∷◌, [], List, true};
 ghost use Rattle.std.specs.Prelude.{IfSome, IsTrue};
 ghost use mathlib.Core.List.{IsPrefix};
+ghost use Rattle.logbook.specs.Pages.{Named};
 ghost use Rattle.crossbeam_utils.specs.Padded.{padded_value};
 ghost use Rattle.lru_clock.specs.History.{turns, entry, named, HasCome};
 ghost use Rattle.lru_clock.specs.Arrivals.{Arrives};
@@ -276,6 +277,18 @@ pub struct Arrival<K, V> {
 }
 
 impl<K, V> Arrival<K, V> {
+    /// Returns whether both are one arrival, if they are arrivals at one slot.
+    pub(crate) fn is(&self, other: &Arrival<K, V>) -> bool
+        requires book { other.now.log.book ≡ self.now.log.book }
+        ensures { IsTrue result → (w : Named) (e f : Entry_ K V)
+            → Arrives w self.now e → Arrives w other.now f → e ≡ f }
+    {
+        // Has no effect at run time: it proves that both are prefixes of one history.
+        let mut both = self.log.again();
+        both.learn(&other.log);
+        self.number == other.number
+    }
+
     /// With a past, does what `Past::find` does. Without one, reads nothing, and returns the
     /// history up to this arrival.
     #[inline(always)]

@@ -30,6 +30,7 @@
 //!
 //! - a pin more and perhaps a chance, only in `PRESENT`, by a compare-exchange: a hit, or a
 //!   comparison of keys;
+//! - a pin more by a caller that has one, in `PRESENT` or `MARKED`, by a compare-exchange: a clone;
 //! - a chance less, by a compare-exchange, after a comparison of keys that differ;
 //! - a pin less, by a subtraction: whoever has the pin gives it back.
 ghost use Rattle.std.specs.Prelude.{◌≡◌, ◌≢◌, ◌<◌, ◌%◌, IfErr, IfOk, IfSome, IsTrue};
@@ -37,6 +38,7 @@ ghost use Rattle.std.specs.Prelude.{MatchOption};
 ghost use Rattle.lru_slot.specs.Words.{readers, IsTurn};
 ghost use Rattle.lru_clock.specs.History.{entry};
 ghost use Rattle.lru_clock.specs.Arrivals.{Arrives};
+ghost use Rattle.lru_clock.specs.Claims.{HasValue};
 ghost use Rattle.lru_clock.specs.Hits.{Sees};
 ghost use Rattle.lru_clock.specs.Looks.{after_look as after_look_};
 
@@ -110,6 +112,7 @@ const _: () = prove!(size_of::<Slot<u64, u64, Anything>>() == 48);
 /// Clauses see the key that the caller asked for, the value, which fits that key by the mark `F`,
 /// and the prefix of the history that the call saw.
 pub struct Pin<'a, K: Eq, V, F: Fit<K, V>> {
+    slot: &'a Slot<K, V, F>,
     claim: Claim<'a, Option<Stored<K, V, F>>>,
     asked: Shown<K>,
     shown: Shown<V>,
@@ -117,7 +120,8 @@ pub struct Pin<'a, K: Eq, V, F: Fit<K, V>> {
 }
 
 impl<'a, K: Eq, V, F: Fit<K, V>> Model for Pin<'a, K, V, F> {
-    ghost use Rattle.std.specs.Prelude.{◌≡◌, IsSomeAnd};
+    ghost use Rattle.std.specs.Prelude.{◌≡◌};
+    ghost use Rattle.lru_clock.specs.Claims.{HasValue};
     ghost use Rattle.lru_clock.specs.Pins.{PinOf};
 
     ghost Value = { PinOf K V };
@@ -130,8 +134,8 @@ impl<'a, K: Eq, V, F: Fit<K, V>> Model for Pin<'a, K, V, F> {
     } };
 
     ghost invariant = { λ p. (p.claim.right ≡ 1)
-        × IsSomeAnd p.claim.value (λ slot. IsSomeAnd slot
-        (λ stored. stored.kept.value ≡ p.shown.value))
+        × (p.claim.tag ≡ p.slot.now.track.word)
+        × HasValue p.claim.value p.shown.value
         × F.fits p.asked.value p.shown.value };
 }
 
@@ -225,7 +229,7 @@ impl<K: Eq + Drop, V: Drop, F: Fit<K, V>> Slot<K, V, F> {
         // line one more time if another thread wrote the word last.
         let (found, claim) = self.cell.turn(MOST_USED, MOST_USED + ONE_READER);
         if found == MOST_USED {
-            return Pin::of_key(&self.track, claim, key, past, most_pins == 0);
+            return Pin::of_key(self, claim, key, past, most_pins == 0);
         }
         claim.done();
         self.pin_from(found, key, most_pins, past)
@@ -267,7 +271,7 @@ impl<K: Eq + Drop, V: Drop, F: Fit<K, V>> Slot<K, V, F> {
             };
             let (found, claim) = self.cell.turn(seen, next);
             if found == seen {
-                let pinned = Pin::of_key(&self.track, claim, key, past, pins == most_pins);
+                let pinned = Pin::of_key(self, claim, key, past, pins == most_pins);
                 if is_chance && matches!(&pinned, Ok(None)) {
                     self.lose_chance();
                 }
@@ -457,20 +461,38 @@ impl<K: Eq, V, F: Fit<K, V>> Stored<K, V, F> {
     }
 }
 
+// Returns whether two claims of one slot are of the same entry, by the numbers of the arrivals.
+fn have_one_entry<K: Eq, V, F: Fit<K, V>>(
+    claim: &Claim<'_, Option<Stored<K, V, F>>>,
+    other: &Claim<'_, Option<Stored<K, V, F>>>,
+) -> bool
+    requires read { (claim.now.right ≡ 1) × (other.now.right ≡ 1) }
+    requires slot { claim.now.tag ≡ other.now.tag }
+    ensures { IsTrue result → (v : V) → HasValue claim.now.value v → HasValue other.now.value v }
+{
+    match claim.get() {
+        Some(stored) => match other.get() {
+            Some(found) => stored.arrival.is(&found.arrival),
+            None => false,
+        },
+        None => false,
+    }
+}
+
 impl<'a, K: Eq, V, F: Fit<K, V>> Pin<'a, K, V, F> {
     // Keeps a pin of an entry that `confirm` accepts, unless it exceeds the maximum, and releases
     // any other pin.
     #[inline(always)]
     fn of_key(
-        track: &Track<K, V>,
+        slot: &'a Slot<K, V, F>,
         claim: Claim<'a, Option<Stored<K, V, F>>>,
         key: &K,
         past: &Option<Past<K, V>>,
         is_too_many: bool,
     ) -> Result<Option<Self>, Refusal>
         requires read { claim.right ≡ 1 }
-        requires slot { claim.tag ≡ track.now.word }
-        requires book { IfSome past.now (λ p. p.book ≡ track.now.word.book) }
+        requires slot { claim.tag ≡ slot.now.track.word }
+        requires book { IfSome past.now (λ p. p.book ≡ slot.now.track.word.book) }
         ensures pin { IfOk result (λ found. IfSome found
             (λ p. (p.key ≡ key.now) × F.fits key.now p.value)) }
         ensures since { IfSome past.now (λ past. IfOk result (λ found. IfSome found
@@ -478,7 +500,7 @@ impl<'a, K: Eq, V, F: Fit<K, V>> Pin<'a, K, V, F> {
         ensures refused { IfErr result (λ e. e ≡ Refusal.Overflow) }
     {
         let found = match claim.get() {
-            Some(stored) => stored.confirm(key, track, past),
+            Some(stored) => stored.confirm(key, &slot.track, past),
             None => None,
         };
         match found {
@@ -488,6 +510,7 @@ impl<'a, K: Eq, V, F: Fit<K, V>> Pin<'a, K, V, F> {
                     return Err(Refusal::Overflow);
                 }
                 Ok(Some(Pin {
+                    slot,
                     claim,
                     asked: Shown::of(key),
                     shown,
@@ -521,10 +544,49 @@ impl<'a, K: Eq, V, F: Fit<K, V>> Pin<'a, K, V, F> {
         self.seen.again()
     }
 
+    /// Pins the entry once more, even if it was invalidated, and gives it no chance.
+    ///
+    /// Returns `Overflow` if the entry has the maximum number of pins.
+    pub fn again(&self, most_pins: u64) -> Result<Self, Refusal>
+        requires limit { most_pins < 1073741823 }
+        ensures key { IfOk result (λ p. p.key ≡ self.now.key) }
+        ensures value { IfOk result (λ p. p.value ≡ self.now.value) }
+        ensures fits { IfOk result (λ p. F.fits p.key p.value) }
+        ensures refused { IfErr result (λ e. e ≡ Refusal.Overflow) }
+    {
+        let mut seen = self.slot.cell.load();
+        for _ in 0..u64::MAX {
+            let state = state_of(seen);
+            if (state != PRESENT && state != MARKED) || pins_of(seen) >= most_pins {
+                return Err(Refusal::Overflow);
+            }
+            let (found, claim) = self.slot.cell.turn(seen, seen + ONE_READER);
+            if found == seen {
+                // Always so, since no other entry comes to the slot while this pin exists, but only
+                // this comparison proves it.
+                if have_one_entry(&self.claim, &claim) {
+                    return Ok(Pin {
+                        slot: self.slot,
+                        claim,
+                        asked: self.asked.again(),
+                        shown: self.shown.again(),
+                        seen: self.seen.again(),
+                    });
+                }
+                claim.leave();
+                return Err(Refusal::Overflow);
+            }
+            claim.done();
+            seen = found;
+        }
+        Err(Refusal::Overflow)
+    }
+
     /// Releases the pin, and returns the state of the entry afterwards.
     #[inline(always)]
     pub fn release(self) -> Released {
         let Self {
+            slot: _,
             claim,
             asked: _,
             shown: _,

@@ -88,6 +88,7 @@ impl<'a, K: Eq + Drop, V: Drop, F: Fit<K, V>> Claimed<'a, K, V, F> {
             claim.put_pinned(Some(stored), PRESENT + ONE_READER)
         };
         let pin = Pin {
+            slot,
             claim,
             asked: Shown::of(key),
             shown,
