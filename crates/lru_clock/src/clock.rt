@@ -507,6 +507,26 @@ impl<K: Hash + Eq + Clone + Drop, V: Drop, R: Wait, S: BuildHasher, F: Fit<K, V>
         shard.contains(&self.rt, tag, key)
     }
 
+    /// Calls `f` with the key, the value, the charge and the number of pins of each entry that its
+    /// key finds, in an unspecified order. An idle entry has no pins. Values that are being made and
+    /// entries that were invalidated are left out. Does not count as a use of an entry. Takes no
+    /// memory.
+    ///
+    /// The shards are visited one after another, each under its lock, so the entries need not all
+    /// have been there at any one moment. While `f` looks at an entry, the entry has one pin more,
+    /// which does not count in the number of pins. `f` should be short, and must neither use this
+    /// cache nor drop a handle of it, since that could deadlock.
+    pub fn for_each<G>(&self, mut f: G)
+    where
+        G: FnMut(&K, &V, u64, u32) + Drop,
+        requires callable { (state : G) (k : _) (v : _) (charge pins : _)
+            → F.fits k.now v.now → G.pre state k v charge pins }
+    {
+        for shard in &self.shards {
+            shard.for_each(&self.rt, &mut f);
+        }
+    }
+
     /// Returns the sum of the shards' counts, read one after another, so it is not a snapshot.
     /// Takes no memory.
     pub fn counts(&self) -> Counts {

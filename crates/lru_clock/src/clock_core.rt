@@ -95,6 +95,20 @@ impl<K: Eq + Clone + Drop, V: Drop, F: Fit<K, V>> Core<K, V, F> {
         Some((place, self.store.slot(place)?))
     }
 
+    /// Calls `f` with each entry that its key finds. Visits every slot.
+    pub fn for_each<G>(&self, state: &ShardState<K>, f: &mut G)
+    where
+        G: FnMut(&K, &V, u64, u32),
+        requires callable { (state : G) (k : _) (v : _) (charge pins : _)
+            → F.fits k.now v.now → G.pre state k v charge pins }
+    {
+        for place in 0..state.seats.places() {
+            if let Some(slot) = self.store.slot(place) {
+                slot.visit(self.most_pins, state.seats.charge_at(place), f);
+            }
+        }
+    }
+
     /// Returns the sum of the charges of the entries that somebody has pinned. Visits every slot.
     pub fn pinned_charge(&self, state: &ShardState<K>) -> u64 {
         let mut pinned = 0u64;

@@ -1,5 +1,5 @@
 //! Tests of the clock alone: its handles, the limits of its numbers, each of its shards, a seeded
-//! run beside a plain cache, a storm of threads, and callers with a past.
+//! run beside a plain cache, a storm of threads, callers with a past, and visits to all entries.
 
 mod crossings;
 mod handles;
@@ -8,3 +8,4 @@ mod pasts;
 mod plain;
 mod seeded;
 mod storm;
+mod visits;

@@ -213,6 +213,20 @@ impl<K: Hash + Eq + Clone + Drop, V: Drop, F: Fit<K, V>> Shard<K, V, F> {
         pinned
     }
 
+    /// Calls `f` with each entry that its key finds.
+    pub fn for_each<R: Wait, G>(&self, rt: &R, f: &mut G)
+    where
+        G: FnMut(&K, &V, u64, u32),
+        requires callable { (state : G) (k : _) (v : _) (charge pins : _)
+            → F.fits k.now v.now → G.pre state k v charge pins }
+    {
+        let guard = self.lock(rt);
+        self.core.for_each(&guard, f);
+        self.unlock(guard, None);
+        // The pins under which `f` looked at entries may have kept them from being evicted.
+        self.settle_if_above();
+    }
+
     /// Resets the counts, and returns what they were.
     pub fn reset_counts<R: Wait>(&self, rt: &R) -> Counts {
         let mut guard = self.lock(rt);

@@ -28,8 +28,8 @@
 //!
 //! Anybody takes these:
 //!
-//! - a pin more and perhaps a chance, only in `PRESENT`, by a compare-exchange: a hit, or a
-//!   comparison of keys;
+//! - a pin more and perhaps a chance, only in `PRESENT`, by a compare-exchange: a hit, a comparison
+//!   of keys, or a visit;
 //! - a pin more by a caller that has one, in `PRESENT` or `MARKED`, by a compare-exchange: a clone;
 //! - a chance less, by a compare-exchange, after a comparison of keys that differ;
 //! - a pin less, by a subtraction: whoever has the pin gives it back.
@@ -297,6 +297,39 @@ impl<K: Eq + Drop, V: Drop, F: Fit<K, V>> Slot<K, V, F> {
     /// Returns whether the entry, if there is one, is pinned or held.
     pub fn is_pinned(&self) -> bool {
         is_kept(self.cell.load())
+    }
+
+    /// Calls `f` with the entry if it is present: with its key, its value, this charge and the number
+    /// of its pins. The entry is pinned meanwhile, and gets no chance.
+    pub fn visit<G>(&self, most_pins: u64, charge: u64, f: &mut G)
+    where
+        G: FnMut(&K, &V, u64, u32),
+        requires limit { most_pins < 1073741823 }
+        requires callable { (state : G) (k : _) (v : _) (charge pins : _)
+            → F.fits k.now v.now → G.pre state k v charge pins }
+    {
+        let mut seen = self.cell.load();
+        for _ in 0..u64::MAX {
+            if state_of(seen) != PRESENT {
+                return;
+            }
+            let pins = pins_of(seen);
+            // There is one more pin than the maximum while another caller compares the key.
+            if pins > most_pins {
+                seen = self.cell.load();
+                continue;
+            }
+            let (found, claim) = self.cell.turn(seen, seen + ONE_READER);
+            if found == seen {
+                if let Some(stored) = claim.get() {
+                    f(&stored.kept.key, &stored.kept.value, charge, pins as u32);
+                }
+                claim.leave();
+                return;
+            }
+            claim.done();
+            seen = found;
+        }
     }
 
     /// Claims a free slot, which is about to get an entry. Returns `None` if the slot is not free.
