@@ -150,6 +150,10 @@ module _ {K : Type 0} where
       let total = sum_by (λ seat. seat.charge) seats + charge in
       cond (nat_lt total (2 ^ 64)) (nat_lt capacity total) false
 
+  -- a strict limit refuses another charge, and one that is not strict refuses none
+  abbrev pub refuses : Bool → ℕ → List (Seat K) → ℕ → Bool
+  refuses is_strict capacity seats charge = cond is_strict (is_above capacity seats charge) false
+
   -- room was made if there has to be some, and else nothing changed
   abbrev pub MakesRoom : {X : Type 0} → Bool → List (Seat K) → List (Seat K) → OrderOf → OrderOf → List Looked → List Looked → Option X → Type 0
   MakesRoom is_above seats new_seats order new_order looks new_looks leaver =

@@ -1,6 +1,7 @@
 //! The state that the lock of a shard protects.
 ghost use Rattle.std.specs.Prelude.{◌≡◌, [], sum_by, cond, IfOk, Some, None};
-ghost use Rattle.lru_clock.specs.Evictions.{arrived, passed, charge_at, tag_at, is_above};
+ghost use Rattle.lru_clock.specs.Evictions.{arrived, passed, charge_at, tag_at};
+ghost use Rattle.lru_clock.specs.Evictions.{is_above, refuses};
 ghost use Rattle.lru_clock.specs.Orders.{left};
 ghost use Rattle.std.proofs.Math.ListN.{set};
 ghost use Rattle.lru_clock.specs.Seats.{seat};
@@ -106,6 +107,14 @@ impl<K: Eq + Drop> ShardState<K> {
             Some(total) => total > self.capacity,
             None => false,
         }
+    }
+
+    /// Returns whether a strict limit refuses another charge, since it would take the total above
+    /// the capacity. A limit that is not strict refuses none.
+    pub fn refuses(&self, charge: u64, is_strict: bool) -> bool
+        ensures { result ≡ refuses is_strict self.now.capacity self.now.seats charge }
+    {
+        is_strict && self.is_above(charge)
     }
 
     /// Vacates the seat of an entry that was taken out of its slot, and counts an eviction. The

@@ -1,9 +1,11 @@
 //! The changes of a shard: entries that come, and entries that leave other than by eviction.
-ghost use Rattle.std.specs.Prelude.{◌≡◌, ◌≢◌, true, Some, IfErr, IfOk, IfSome, MatchResult, sum_by};
+ghost use Rattle.std.specs.Prelude.{◌≡◌, ◌≢◌, true, None, Some, IfErr, IfOk, IfSome};
+ghost use Rattle.std.specs.Prelude.{MatchOption, MatchResult, sum_by};
+ghost use Rattle.std.proofs.Math.ListN.{set};
 ghost use Rattle.lru_clock.specs.Evictions.{Comes};
 ghost use Rattle.lru_clock.specs.Orders.{IsWidened};
 ghost use Rattle.lru_clock.specs.SeatChanges.{Charges, KeepsCharges};
-ghost use Rattle.lru_clock.specs.Seats.{LacksKey};
+ghost use Rattle.lru_clock.specs.Seats.{seat, LacksKey};
 
 use crate::clock_core::Core;
 use crate::shard_state::ShardState;
@@ -182,17 +184,24 @@ impl<K: Eq + Clone + Drop, V: Drop, F: Fit<K, V>> Core<K, V, F> {
     }
 
     /// Evicts the entry at a place if nobody has pinned it.
-    pub fn take_idle(&self, state: &mut ShardState<K>, place: u32) -> Option<Left<'_, K, V, F>> {
+    pub fn take_idle(&self, state: &mut ShardState<K>, place: u32) -> Option<Left<'_, K, V, F>>
+        ensures { MatchOption result (state.new ≡ state.old)
+            (λ _. state.new.seats ≡ set state.old.seats place (seat 0 0 None)) }
+    {
         let taken = self.store.take_idle(place)?;
         Some(state.vacate(taken, false))
     }
 
-    /// Evicts the first entry that nobody has pinned, from the place `next` on.
+    /// Evicts the first entry that nobody has pinned, from the place `next` on, and sets `next` to
+    /// its place.
     pub fn take_next_idle(
         &self,
         state: &mut ShardState<K>,
         next: &mut u32,
-    ) -> Option<Left<'_, K, V, F>> {
+    ) -> Option<Left<'_, K, V, F>>
+        ensures { MatchOption result ((state.new ≡ state.old) × (next.new ≡ next.old))
+            (λ _. state.new.seats ≡ set state.old.seats next.new (seat 0 0 None)) }
+    {
         for place in *next..state.seats.places() {
             if let Some(leaver) = self.take_idle(state, place) {
                 *next = place;
@@ -220,7 +229,10 @@ impl<K: Eq + Clone + Drop, V: Drop, F: Fit<K, V>> Core<K, V, F> {
         &self,
         state: &mut ShardState<K>,
         place: u32,
-    ) -> Option<Left<'_, K, V, F>> {
+    ) -> Option<Left<'_, K, V, F>>
+        ensures { MatchOption result (state.new ≡ state.old)
+            (λ _. state.new.seats ≡ set state.old.seats place (seat 0 0 None)) }
+    {
         let taken = self.store.take_invalidated(place)?;
         Some(state.vacate(taken, false))
     }

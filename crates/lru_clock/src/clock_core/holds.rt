@@ -1,12 +1,14 @@
 //! Holds of entries: lookups without the lock by callers that cannot keep a pin.
-ghost use Rattle.std.specs.Prelude.{◌≡◌, ◌≢◌, false, IfErr, IfOk};
+ghost use Rattle.std.specs.Prelude.{◌≡◌, ◌≢◌, false, None, IfErr, IfOk, MatchOption};
 ghost use Rattle.std.specs.List.{list_any};
+ghost use Rattle.std.proofs.Math.ListN.{set};
 ghost use Rattle.lru_clock.specs.Makings.{is_of};
 ghost use Rattle.lru_clock.specs.SeatChanges.{Charges};
+ghost use Rattle.lru_clock.specs.Seats.{seat};
 
 use crate::clock_core::Core;
 use crate::shard_state::ShardState;
-use crate::store::Released;
+use crate::store::{Left, Released};
 use concurrent_lru::fit::Fit;
 use concurrent_lru::sharded::Refusal;
 
@@ -74,6 +76,24 @@ impl<K: Eq + Clone + Drop, V: Copy + Drop, F: Fit<K, V>> Core<K, V, F> {
     #[inline(always)]
     pub fn end_hold(&self, place: u32) -> Option<Released> {
         self.store.slot(place)?.end_hold()
+    }
+
+    /// Ends a hold of the entry at a place, and takes out the entry if nobody else has pinned it.
+    /// Returns `None` if there is no hold.
+    pub fn end_hold_and_take(
+        &self,
+        state: &mut ShardState<K>,
+        place: u32,
+    ) -> Option<Option<Left<'_, K, V, F>>>
+        ensures { MatchOption result (state.new ≡ state.old) (λ left. MatchOption left
+            (state.new ≡ state.old)
+            (λ _. state.new.seats ≡ set state.old.seats place (seat 0 0 None))) }
+    {
+        match self.end_hold(place)? {
+            Released::Pinned => Some(None),
+            Released::Idle => Some(self.take_idle(state, place)),
+            Released::Invalidated => Some(self.take_idle(state, place)),
+        }
     }
 
     /// Stores a value for a key of which the index has no entry, holds the entry, and returns its
