@@ -5,3 +5,4 @@ pub mod Charges
 pub mod Copies
 pub mod Searches
 pub mod Keys
+pub mod Vacant

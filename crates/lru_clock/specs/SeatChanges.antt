@@ -1,5 +1,5 @@
 -- What a change of the index does to the seats.
-use Rattle.std.specs.Prelude.{◌≡◌, ℕ, ◌+◌, ◌-◌, ◌<◌, ◌^◌, true, false, List, None, Some, slice_get, sum_by, MatchOption}
+use Rattle.std.specs.Prelude.{◌≡◌, ℕ, ◌+◌, ◌-◌, ◌<◌, ◌^◌, ◌++◌, replicate, true, false, List, None, Some, slice_get, sum_by, MatchOption}
 use Rattle.std.proofs.Math.ListN.{set}
 use Rattle.lru_clock.specs.Evictions.{charge_at}
 use Rattle.lru_clock.specs.Seats.{Seat, seat, listed_as}
@@ -24,6 +24,10 @@ module _ {K : Type 0} where
   -- a place has a seat and no entry
   abbrev pub IsVacant : List (Seat K) → ℕ → Type 0
   IsVacant seats p = slice_get seats p ≡ Some (seat 0 0 None)
+
+  -- vacant places were added, and nothing else changed
+  abbrev pub AddsVacant : List (Seat K) → List (Seat K) → Type 0
+  AddsVacant old new = (n : ℕ) × (new ≡ old ++ replicate n (seat 0 0 None))
 
   -- no charge changed
   pub record KeepsCharges (old new : List (Seat K)) : Type 0 where

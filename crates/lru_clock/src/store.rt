@@ -10,6 +10,7 @@ ghost use Rattle.std.specs.Prelude.{MatchResult, sum_by};
 ghost use Rattle.lru_clock.specs.Books.{EachOf, numbers};
 ghost use Rattle.lru_clock.specs.Looks.{LooksOnce};
 ghost use Rattle.lru_clock.specs.Orders.{IsWidened};
+ghost use Rattle.lru_clock.specs.SeatChanges.{AddsVacant};
 
 mod looks;
 mod search;
@@ -398,6 +399,7 @@ impl<K: Eq + Drop, V: Drop, F: Fit<K, V>> Store<K, V, F> {
         ensures order { IsWidened order.old order.new }
         ensures total { sum_by (λ seat. seat.charge) seats.new
             ≡ sum_by (λ seat. seat.charge) seats.old }
+        ensures seats { AddsVacant seats.old seats.new }
     {
         let place = seats.places();
         self.add_page(alloc, place, seats, order)?;

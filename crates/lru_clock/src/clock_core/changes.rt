@@ -4,7 +4,7 @@ ghost use Rattle.std.specs.Prelude.{MatchOption, MatchResult, sum_by};
 ghost use Rattle.std.proofs.Math.ListN.{set};
 ghost use Rattle.lru_clock.specs.Evictions.{Comes};
 ghost use Rattle.lru_clock.specs.Orders.{IsWidened};
-ghost use Rattle.lru_clock.specs.SeatChanges.{Charges, KeepsCharges};
+ghost use Rattle.lru_clock.specs.SeatChanges.{AddsVacant, Charges, KeepsCharges};
 ghost use Rattle.lru_clock.specs.Seats.{seat, LacksKey};
 
 use crate::clock_core::Core;
@@ -215,7 +215,12 @@ impl<K: Eq + Clone + Drop, V: Drop, F: Fit<K, V>> Core<K, V, F> {
     ///
     /// Returns `Memory` and `Overflow` as `Store::grow` does. No entry changes.
     pub fn grow_to(&self, state: &mut ShardState<K>, entries: usize) -> Result<(), Refusal>
-        ensures { IfErr result (λ e. e ≢ Refusal.Stale) }
+        ensures never_stale { IfErr result (λ e. e ≢ Refusal.Stale) }
+        ensures same { state.new ≡ record state.old {
+          seats = state.new.seats;
+          order = state.new.order;
+        } }
+        ensures seats { AddsVacant state.old.seats state.new.seats }
     {
         for _ in state.seats.len()..entries {
             self.store

@@ -6,7 +6,7 @@ ghost use Rattle.std.proofs.Math.ListN.{set};
 ghost use Rattle.lru_clock.specs.Index.{IsSize};
 ghost use Rattle.lru_clock.specs.Seats.{seat as seat_of, HasKeyAt, LacksKey, IsIndex};
 ghost use Rattle.lru_clock.specs.Evictions.{charge_at, tag_at, places_of};
-ghost use Rattle.lru_clock.specs.SeatChanges.{IsFree, IsVacant, ListsAt, UnlistsAt};
+ghost use Rattle.lru_clock.specs.SeatChanges.{AddsVacant, IsFree, IsVacant, ListsAt, UnlistsAt};
 
 use crate::index::{Index, Words, word_of};
 use crate::store::search::{Search, find_key};
@@ -166,6 +166,7 @@ impl<K: Eq + Drop> Seats<K> {
     pub fn add(&mut self, place: u32) -> Result<bool, AllocError>
         ensures total { sum_by (λ seat. seat.charge) self.new
             ≡ sum_by (λ seat. seat.charge) self.old }
+        ensures seats { AddsVacant self.old self.new }
     {
         let wider = widened(&self.seats, self.words.count())?;
         self.seats.push(Seat::vacant(self.vacant))?;

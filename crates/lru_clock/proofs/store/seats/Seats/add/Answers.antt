@@ -26,3 +26,9 @@ invariant_of-self-in-None g c =
       omega (arith, c.self.invariant.0, sum_by_push (λ s. s.charge) items (seat 0 0 None)),
       index_longer E items words (seat 0 0 None) c.self.invariant.1 refl (omega arith) (omega (arith, room, c.count.ensures.count)),
     )
+
+pub returns-in-Some-clause-seats : goal.returns-in-Some-clause-seats
+returns-in-Some-clause-seats g c = (1, c.in_ok-push.ensures.items ∙ ap (λ t. c.self.inside.seats.items ++ t ∷ []) c.vacant.ensures ∙ ap (λ l. l ++ seat 0 0 None ∷ []) c.self.view_is)
+
+pub returns-in-None-clause-seats : goal.returns-in-None-clause-seats
+returns-in-None-clause-seats g c = (1, c.in_ok-push.ensures.items ∙ ap (λ t. c.self.inside.seats.items ++ t ∷ []) c.vacant.ensures ∙ ap (λ l. l ++ seat 0 0 None ∷ []) c.self.view_is)
