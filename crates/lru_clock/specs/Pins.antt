@@ -1,5 +1,5 @@
--- What clauses see of a past and of a pin.
-use Rattle.std.specs.Prelude.{List}
+-- What clauses see of a past, of a pin and of an invalidation.
+use Rattle.std.specs.Prelude.{ℕ, List}
 use Rattle.logbook.specs.Pages.{Book}
 use Rattle.lru_clock.specs.declared.history.Event.{Event}
 
@@ -16,3 +16,11 @@ pub record PinOf (K V : Type 0) : Type 0 where
   pub value : V
   pub book : Book
   pub log : List (Event K V)
+
+-- the key, the tag of its hash, and the prefix of the shard's history after which the key was
+-- invalidated
+pub record InvalidatedOf (K V : Type 0) : Type 0 where
+  pub key : K
+  pub tag : ℕ
+  pub book : Book
+  pub since : List (Event K V)

@@ -2,16 +2,17 @@
 //!
 //! A hasher chooses the shard of a key. A hit pins its entry by a compare-exchange, and dropping
 //! its handle is one subtraction. Everything else takes the lock of the key's shard.
-ghost use Rattle.std.specs.Prelude.{◌≡◌, ◌≢◌, ◌<◌, Some, None, Ok, Err, IfOk, IfErr, IfSome};
+ghost use Rattle.std.specs.Prelude.{◌≡◌, ◌≢◌, ◌<◌, ◌/◌, Some, None, Ok, Err, IfOk, IfErr, IfSome};
 ghost use Rattle.std.specs.Prelude.{length, vec_len};
 ghost use Rattle.std.specs.Fn.{FnOnceReturnsAt, FnOnceTakesAt};
 ghost use Rattle.concurrent_lru.specs.Cache.{CopiesAreEqual};
 ghost use Rattle.concurrent_lru.specs.ThreadedCalls.{IfInit, IsNotInit};
-ghost use Rattle.lru_clock.specs.Shards.{IsBookOf, IsShardOf};
+ghost use Rattle.lru_clock.specs.Shards.{IsBookOf, IsEvidenceOf, IsShardOf, IsTagOf};
 ghost use Rattle.concurrent_lru.specs.Sharded.{key_number};
 
 mod pasts;
 
+pub use crate::clock_core::Invalidated;
 pub use crate::handle::CacheHandle;
 pub use crate::history::Past;
 use crate::shard::{Shard, Turn};
@@ -186,6 +187,7 @@ impl<K: Hash + Eq + Clone + Drop, V: Drop, R: Wait, S: BuildHasher, F: Fit<K, V>
     fn route(&self, key: &K) -> (&Shard<K, V, F>, u32)
         ensures book { IsBookOf S.BuildHasher S.Hasher.Hasher K.hash_input self.now key.now
             result.0.now.core.store.chronicle.first.book }
+        ensures tag { IsTagOf S.BuildHasher S.Hasher.Hasher K.hash_input self.now key.now result.1 }
     {
         choose_shard(&self.hasher, &self.shards, key)
     }
@@ -432,9 +434,14 @@ impl<K: Hash + Eq + Clone + Drop, V: Drop, R: Wait, S: BuildHasher, F: Fit<K, V>
     /// later, even while others have the old one pinned. An entry that nobody has pinned is removed
     /// at once. A pinned entry stays for its handles alone, and is removed when the last of them is
     /// dropped. Copies no key and takes no memory.
-    pub fn invalidate(&self, key: &K) {
+    ///
+    /// Returns evidence for clauses that it did, which may be dropped.
+    pub fn invalidate(&self, key: &K) -> Invalidated<K, V>
+        ensures evidence { IsEvidenceOf S.BuildHasher S.Hasher.Hasher K.hash_input self.now key.now
+            result }
+    {
         let (shard, tag) = self.route(key);
-        shard.invalidate(&self.rt, tag, key);
+        shard.invalidate(&self.rt, tag, key)
     }
 
     /// Evicts every entry that nobody has pinned, one shard after another, so the call is not
@@ -559,6 +566,8 @@ fn choose_shard<'a, K: Hash + Eq + Clone, V, S: BuildHasher, F: Fit<K, V>>(
     requires some { 0 < length shards.now }
     ensures shard { IsShardOf shards.now
         (key_number S.BuildHasher S.Hasher.Hasher K.hash_input hasher.now key.now) result.0.now }
+    ensures tag { result.1
+        ≡ key_number S.BuildHasher S.Hasher.Hasher K.hash_input hasher.now key.now / 4294967296 }
 {
     let hash = hasher.hash_one(key);
     let at = match shards.len() {

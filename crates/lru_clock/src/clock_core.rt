@@ -11,8 +11,10 @@ ghost use Rattle.lru_clock.specs.Hits.{Sees};
 mod changes;
 mod evictions;
 mod holds;
+mod invalidations;
 mod makings;
 
+pub use crate::clock_core::invalidations::Invalidated;
 pub use crate::clock_core::makings::Begun;
 use crate::history::Past;
 pub use crate::shard_state::ShardState;

@@ -229,6 +229,13 @@ impl<K, V> Past<K, V> {
         self.seen.again()
     }
 
+    /// Returns the prefix after which an entry must have been stored to be found.
+    pub(crate) fn since(&self) -> Log<K, V>
+        ensures { (result.book ≡ self.now.book) × (result.log ≡ self.now.since) }
+    {
+        self.since.again()
+    }
+
     /// Returns a past with the same `since` that has seen more.
     #[inline(always)]
     pub(crate) fn after(&self, seen: Log<K, V>) -> Self

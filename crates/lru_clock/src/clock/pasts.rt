@@ -2,9 +2,9 @@
 ghost use Rattle.std.specs.Prelude.{◌≡◌, ◌≢◌, None, IfOk, IfErr, IfSome};
 ghost use mathlib.Core.List.{IsPrefix};
 ghost use Rattle.lru_clock.specs.Hits.{IsFresh};
-ghost use Rattle.lru_clock.specs.Shards.{IsBookOf};
+ghost use Rattle.lru_clock.specs.Shards.{IsBookOf, IsEvidenceOf};
 
-use crate::clock::{Cache, CacheHandle};
+use crate::clock::{Cache, CacheHandle, Invalidated};
 use crate::history::Past;
 use concurrent_lru::fit::Fit;
 use concurrent_lru::sharded::Refusal;
@@ -66,14 +66,20 @@ impl<K: Hash + Eq + Clone + Drop, V: Drop, R: Wait, S: BuildHasher, F: Fit<K, V>
     }
 
     /// `invalidate`, after which `find_since` with this past returns only entries that are stored
-    /// later, for every key of the shard.
-    pub fn invalidate_since(&self, key: &K, past: &mut Past<K, V>)
+    /// later, for every key of the shard: the new `since` is the prefix of the history after which
+    /// the key was invalidated, and extends all that the past had seen.
+    ///
+    /// Returns evidence for clauses that it did, which may be dropped.
+    pub fn invalidate_since(&self, key: &K, past: &mut Past<K, V>) -> Invalidated<K, V>
         requires book { IsBookOf S.BuildHasher S.Hasher.Hasher K.hash_input self.now key.now
             past.old.book }
+        ensures evidence { IsEvidenceOf S.BuildHasher S.Hasher.Hasher K.hash_input self.now key.now
+            result }
         ensures book { past.new.book ≡ past.old.book }
         ensures later { IsPrefix past.old.seen past.new.since }
+        ensures since { result.since ≡ past.new.since }
     {
         let (shard, tag) = self.route(key);
-        shard.invalidate_since(&self.rt, tag, key, past);
+        shard.invalidate_since(&self.rt, tag, key, past)
     }
 }

@@ -3,15 +3,15 @@
 ghost use Rattle.std.specs.Prelude.{◌≡◌, ◌≢◌, ◌<◌, true, IfErr, IfOk, IfSome};
 ghost use mathlib.Core.List.{IsPrefix};
 
+use crate::clock_core::Invalidated;
 use crate::history::Past;
 use crate::makings::{Ended, Ticket};
 use crate::shard::Shard;
-use crate::shard_state::ShardState;
-use crate::store::{Left, Pin};
+use crate::store::Pin;
 use concurrent_lru::fit::Fit;
 use concurrent_lru::sharded::Refusal;
 use std::hash::Hash;
-use std::sync::{MutexGuard, Wait};
+use std::sync::Wait;
 
 // Returns the key of the making that ended for the index, unless the making was invalidated: then
 // the key is only to be dropped. That key equals the entry's, but only this comparison proves it.
@@ -149,37 +149,39 @@ impl<K: Hash + Eq + Clone + Drop, V: Drop, F: Fit<K, V>> Shard<K, V, F> {
         unreachable!()
     }
 
-    /// Invalidates the key's entry, and the making of its value.
-    pub fn invalidate<R: Wait>(&self, rt: &R, tag: u32, key: &K) {
+    /// Invalidates the key's entry, and the making of its value. Returns the evidence, which only
+    /// `Core::invalidate` creates.
+    pub fn invalidate<R: Wait>(&self, rt: &R, tag: u32, key: &K) -> Invalidated<K, V>
+        ensures key { (result.key ≡ key.now) × (result.tag ≡ tag) }
+        ensures book { result.book ≡ self.now.core.store.chronicle.first.book }
+    {
         let mut guard = self.lock(rt);
-        let left = self.core.invalidate_entry(&mut guard, tag, key);
-        self.end_invalidation(guard, key, left);
+        let (left, invalidated) = self.core.invalidate(&mut guard, tag, key);
+        self.wake(&guard);
+        self.unlock(guard, left);
+        invalidated
     }
 
     /// `invalidate`, which moves `past.since` to this call: only entries that are stored later come
     /// after it.
-    pub fn invalidate_since<R: Wait>(&self, rt: &R, tag: u32, key: &K, past: &mut Past<K, V>)
+    pub fn invalidate_since<R: Wait>(
+        &self,
+        rt: &R,
+        tag: u32,
+        key: &K,
+        past: &mut Past<K, V>,
+    ) -> Invalidated<K, V>
         requires book { past.old.book ≡ self.now.core.store.chronicle.first.book }
-        ensures book { past.new.book ≡ past.old.book }
+        ensures key { (result.key ≡ key.now) × (result.tag ≡ tag) }
+        ensures book { (result.book ≡ past.old.book) × (past.new.book ≡ past.old.book) }
         ensures later { IsPrefix past.old.seen past.new.since }
+        ensures since { result.since ≡ past.new.since }
     {
         let mut guard = self.lock(rt);
-        let left = self.core.invalidate_entry(&mut guard, tag, key);
-        *past = self.core.store.chronicle.renew(past);
-        self.end_invalidation(guard, key, left);
-    }
-
-    // Invalidates the making of a key's value, and releases the lock.
-    fn end_invalidation<'a>(
-        &'a self,
-        guard: MutexGuard<'a, ShardState<K>>,
-        key: &K,
-        left: Option<Left<'a, K, V, F>>,
-    ) {
-        let mut guard = guard;
-        guard.makings.invalidate(key);
+        let (left, invalidated) = self.core.invalidate_since(&mut guard, tag, key, past);
         self.wake(&guard);
         self.unlock(guard, left);
+        invalidated
     }
 
     /// Evicts the key's entry, whatever its chances, if nobody has pinned it.

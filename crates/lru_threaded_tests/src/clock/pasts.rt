@@ -38,6 +38,7 @@ fn replaces_a_value<R: Wait>(rt: &impl Abort, cache: &Numbers<R>) {
     assert_eq!(rt; value_of(cache.find_since(&1, &mut past)), Some(10));
     cache.invalidate_since(&1, &mut past);
     assert_eq!(rt; value_of(cache.find_since(&1, &mut past)), None);
+    assert_eq!(rt; value_of(cache.find(&1)), None);
     assert_eq!(rt; (cache.contains(&1), cache.len()), (false, 0));
     drop(cache.insert(&1, 1, 11));
     assert_eq!(rt; value_of(cache.find_since(&1, &mut past)), Some(11));

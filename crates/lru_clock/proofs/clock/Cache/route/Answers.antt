@@ -10,4 +10,4 @@ returns g c =
     let n = key_number g.S.BuildHasher g.S.Hasher.Hasher g.K.Hash.hash_input c.self.inside.hasher c.args.key.now in
     let shard = c.choose_shard.result.0.now in
     let chosen = subst (λ xs. IsShardOf xs n shard) c.deref.ensures.value c.choose_shard.ensures.shard in
-    record { book = rw (← c.self.view_is) (shard_map (λ s. s.core.store.chronicle.first.book) c.self.inside.shards.items n shard chosen) }
+    record { book = rw (← c.self.view_is) (shard_map (λ s. s.core.store.chronicle.first.book) c.self.inside.shards.items n shard chosen); tag = rw (← c.self.view_is) c.choose_shard.ensures.tag }
