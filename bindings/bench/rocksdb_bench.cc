@@ -1,4 +1,4 @@
-// Measures random reads of a RocksDB database with this block cache, and with RocksDB's LRU and
+// Measures random reads of a RocksDB database with these block caches, and with RocksDB's LRU and
 // HyperClock caches.
 //
 //   rocksdb_bench FOLDER [ROUNDS [READS [KEYS]]]     creates the database in FOLDER if it does not
@@ -14,6 +14,7 @@
 #include <cstdint>
 #include <cstdio>
 #include <cstdlib>
+#include <iterator>
 #include <memory>
 #include <string>
 #include <utility>
@@ -24,6 +25,7 @@
 #include "rocksdb/options.h"
 #include "rocksdb/table.h"
 #include "rocksdb_cache.h"
+#include "rocksdb_clock_cache.h"
 
 namespace {
 
@@ -80,21 +82,32 @@ std::shared_ptr<rocksdb::Cache> NewHyperClock(std::size_t capacity) {
   return options.MakeSharedCache();
 }
 
-std::shared_ptr<rocksdb::Cache> NewProved(std::size_t capacity) {
-  return lru::NewRocksDBBlockCache(capacity);
-}
+// The caches, each with what it is called. The others are compared with the first.
+struct Compared {
+  const char* name;
+  std::shared_ptr<rocksdb::Cache> (*make)(std::size_t capacity);
+};
+
+constexpr Compared kCaches[] = {
+    {"LRU", NewLRU},
+    {"HyperClock", NewHyperClock},
+    {"this LRU", [](std::size_t capacity) { return lru::NewRocksDBBlockCache(capacity); }},
+    {"this clock", [](std::size_t capacity) { return lru::NewRocksDBClockCache(capacity); }}};
 
 void Compare(const Work& work, std::size_t capacity, std::size_t threads, int rounds) {
-  double lru = 1e9, clock = 1e9, proved = 1e9;
+  double least[std::size(kCaches)];
+  std::fill(std::begin(least), std::end(least), 1e9);
   for (int round = 0; round < rounds; round++) {
-    lru = std::min(lru, Measure(work, NewLRU(capacity), threads));
-    clock = std::min(clock, Measure(work, NewHyperClock(capacity), threads));
-    proved = std::min(proved, Measure(work, NewProved(capacity), threads));
+    for (std::size_t i = 0; i < std::size(kCaches); i++) {
+      least[i] = std::min(least[i], Measure(work, kCaches[i].make(capacity), threads));
+    }
   }
-  std::printf(
-      "%2zu MiB, %zu thread%s: LRU %.2f us, HyperClock %.2f us (%.2f), this %.2f us (%.2f)\n",
-      capacity >> 20, threads, threads == 1 ? " " : "s", lru * 1e6, clock * 1e6, clock / lru,
-      proved * 1e6, proved / lru);
+  std::printf("%2zu MiB, %zu thread%s:", capacity >> 20, threads, threads == 1 ? " " : "s");
+  for (std::size_t i = 0; i < std::size(kCaches); i++) {
+    std::printf("%s %s %.2f us", i == 0 ? "" : ",", kCaches[i].name, least[i] * 1e6);
+    if (i > 0) std::printf(" (%.2f)", least[i] / least[0]);
+  }
+  std::printf("\n");
 }
 
 }  // namespace

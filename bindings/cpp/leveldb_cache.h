@@ -85,6 +85,14 @@ std::uint32_t HashOf(const Slice& key) {
   return hash ^ hash >> 24;
 }
 
+// Deletes the value of an entry, unless the function is null.
+struct LevelDBDeleter {
+  void (*function)(const leveldb::Slice& key, void* value);
+  void operator()(const leveldb::Slice& key, void* value) const {
+    if (function != nullptr) function(key, value);
+  }
+};
+
 }  // namespace detail
 
 // `Key` is how the library stores keys: std::string_view or Words.
@@ -158,7 +166,7 @@ class BasicLevelDBCache : public leveldb::Cache {
     // It is a miss too if the entry has 2^32 - 1 handles. If the key is longer than any before and
     // there is no memory for a copy, it has no entry.
     if (told.code != LRU_HIT) return nullptr;
-    return reinterpret_cast<Handle*>(Core::node_of(told.value));
+    return reinterpret_cast<Handle*>(detail::node_of<Entry>(told.value));
   }
 
   void Release(Handle* handle) override {
@@ -202,14 +210,7 @@ class BasicLevelDBCache : public leveldb::Cache {
  private:
   static constexpr std::size_t kMostShards = 16;
 
-  struct Deleter {
-    void (*function)(const leveldb::Slice& key, void* value);
-    void operator()(const leveldb::Slice& key, void* value) const {
-      if (function != nullptr) function(key, value);
-    }
-  };
-
-  using Entry = detail::BlockEntry<leveldb::Slice, Deleter>;
+  using Entry = detail::BlockEntry<leveldb::Slice, detail::LevelDBDeleter>;
   using Core = detail::Core<Entry, Key>;
   // Always declared before the mutex is locked: it is destroyed, and deleters run, after the mutex
   // is unlocked.

@@ -226,11 +226,6 @@ struct Shown<T, Form, std::void_t<decltype(lru::Key<T>::read(std::declval<Form>(
   static auto of(Form written) { return lru::Key<T>::read(written); }
 };
 
-// A sum that stays at 2^64 - 1 if it would be more.
-inline std::uint64_t saturating_add(std::uint64_t a, std::uint64_t b) noexcept {
-  return b > UINT64_MAX - a ? UINT64_MAX : a + b;
-}
-
 // What a cache with a listener keeps for each value, to call it when the value leaves.
 template <class Value, class Key>
 struct Notice {
@@ -679,7 +674,7 @@ class Cache {
       for (const lru_pin& pin : pinned) room.key_of(core_, pin);
     }
     for (const lru_pin& pin : pinned) {
-      mark(core_.node_of(core_.entry(pin).value), Reason::kCleared);
+      mark(detail::node_of<Node>(core_.entry(pin).value), Reason::kCleared);
       detach(hash(room.key_of(core_, pin)), &evicted);
     }
     core_.prune(&evicted);
@@ -702,14 +697,14 @@ class Cache {
     std::vector<lru_entry> entries = findable();
     detail::KeyRoom<Form> room;
     const auto stays = [&](const lru_entry& entry) {
-      const Value& value = core_.node_of(entry.value)->value;
+      const Value& value = detail::node_of<Node>(entry.value)->value;
       const auto& key = Shown::of(room.key_of(core_, entry.pin));
       return !std::invoke(predicate, key, value, entry.charge);
     };
     entries.erase(std::remove_if(entries.begin(), entries.end(), stays), entries.end());
     // The room is enough for each of these keys, so nothing throws any more.
     for (const lru_entry& entry : entries) {
-      mark(core_.node_of(entry.value), Reason::kInvalidated);
+      mark(detail::node_of<Node>(entry.value), Reason::kInvalidated);
       detach(hash(room.key_of(core_, entry.pin)), &evicted);
     }
     return entries.size();
@@ -768,7 +763,7 @@ class Cache {
     const std::vector<lru_entry> entries = findable();
     detail::KeyRoom<Form> room;
     for (const lru_entry& entry : entries) {
-      Value& value = core_.node_of(entry.value)->value;
+      Value& value = detail::node_of<Node>(entry.value)->value;
       const auto& key = Shown::of(room.key_of(core_, entry.pin));
       std::invoke(visit, key, value, entry.charge, entry.pins);
     }
@@ -855,7 +850,9 @@ class Cache {
   // Comes before the lock is taken, if it can.
   Hashed hash(Form written) const noexcept { return detail::Calls<Form>::hashed(written, seed_); }
 
-  Value& value_of(const lru_told& told) const noexcept { return core_.node_of(told.value)->value; }
+  Value& value_of(const lru_told& told) const noexcept {
+    return detail::node_of<Node>(told.value)->value;
+  }
 
   Handle handle(const lru_told& told) {
     return Handle(this, detail::copy_of(told.pin), std::addressof(value_of(told)));
@@ -980,7 +977,7 @@ class Cache {
     const lru_told found = core_.get(hashed);
     if (found.code != LRU_HIT) return;
     own_hits_++;
-    mark(core_.node_of(found.value), Reason::kInvalidated);
+    mark(detail::node_of<Node>(found.value), Reason::kInvalidated);
     core_.release(found.pin, evicted);
   }
 
@@ -994,7 +991,7 @@ class Cache {
   // handle. The other calls that take a key away have marked its value.
   [[gnu::cold]] void mark_replaced(lru_pin pin) noexcept {
     const lru_entry entry = core_.entry(pin);
-    Node* const node = core_.node_of(entry.value);
+    Node* const node = detail::node_of<Node>(entry.value);
     if (entry.is_detached != 0 && node->notice->reason == Reason::kEvicted) {
       mark(node, Reason::kReplaced);
     }

@@ -1,6 +1,7 @@
-// What leveldb_cache.h and rocksdb_cache.h have in common: options, entries that keep the bytes of
-// their keys, shards that have a mutex each, and keys that the library stores as bytes or as two
-// words. Nothing here throws, and the header compiles with -fno-exceptions and -fno-rtti.
+// What leveldb_cache.h, rocksdb_cache.h and lru_clock_block_cache.hpp have in common: options,
+// entries that keep the bytes of their keys, shards that have a mutex each, and keys that the
+// library stores as bytes or as two words. Nothing here throws, and the header compiles with
+// -fno-exceptions and -fno-rtti.
 #ifndef LRU_BLOCK_CACHE_HPP
 #define LRU_BLOCK_CACHE_HPP
 
@@ -54,6 +55,39 @@ inline std::size_t SumOf(std::size_t a, std::size_t b) {
   return a > SIZE_MAX - b ? SIZE_MAX : a + b;
 }
 
+// Whether a key of the database is two words.
+template <class Slice>
+bool HasWords(const Slice& key) {
+  return key.size() == sizeof(Words);
+}
+
+// The key of an entry, in the memory behind it: two words, or the length and the bytes of another
+// key.
+template <class Slice>
+struct KeyBehind {
+  static constexpr std::size_t SizeOf(std::size_t length) {
+    return (length == sizeof(Words) ? 0 : sizeof length) + length;
+  }
+
+  static void Write(const Slice& key, void* behind) {
+    const std::size_t length = key.size();
+    char* at = static_cast<char*>(behind);
+    if (!HasWords(key)) {
+      std::memcpy(at, &length, sizeof length);
+      at += sizeof length;
+    }
+    std::memcpy(at, key.data(), length);
+  }
+
+  static Slice Read(const void* behind, bool has_words) {
+    const char* const at = static_cast<const char*>(behind);
+    if (has_words) return Slice(at, sizeof(Words));
+    std::size_t length;
+    std::memcpy(&length, at, sizeof length);
+    return Slice(at + sizeof length, length);
+  }
+};
+
 struct NothingMore {};
 
 // An entry, followed by its key. Its destructor calls its deleter with the key and the value.
@@ -90,16 +124,10 @@ struct BlockEntry : More {
 
   // How many bytes an entry takes with a key of this length.
   static constexpr std::size_t SizeWith(std::size_t length) {
-    return sizeof(BlockEntry) + (length == sizeof(Words) ? 0 : sizeof length) + length;
+    return sizeof(BlockEntry) + KeyBehind<Slice>::SizeOf(length);
   }
 
-  Slice key() const {
-    const char* const at = reinterpret_cast<const char*>(this + 1);
-    if (has_words) return Slice(at, sizeof(Words));
-    std::size_t length;
-    std::memcpy(&length, at, sizeof length);
-    return Slice(at + sizeof length, length);
-  }
+  Slice key() const { return KeyBehind<Slice>::Read(this + 1, has_words); }
 
   // Of an entry in the cache.
   lru_pin pin() const { return {stamp, hash, place}; }
@@ -116,14 +144,8 @@ struct BlockEntry : More {
 
  private:
   BlockEntry(const Slice& key, void* v, Deleter d)
-      : value(v), has_words(key.size() == sizeof(Words)), deleter(d) {
-    const std::size_t length = key.size();
-    char* at = reinterpret_cast<char*>(this + 1);
-    if (!has_words) {
-      std::memcpy(at, &length, sizeof length);
-      at += sizeof length;
-    }
-    std::memcpy(at, key.data(), length);
+      : value(v), has_words(HasWords(key)), deleter(d) {
+    KeyBehind<Slice>::Write(key, this + 1);
   }
 };
 
@@ -146,7 +168,7 @@ constexpr std::size_t MetadataOf(std::size_t length) {
 // Words.
 template <class Key, class Slice>
 bool CanStore(const Slice& key) {
-  return !std::is_same_v<Key, Words> || key.size() == sizeof(Words);
+  return !std::is_same_v<Key, Words> || HasWords(key);
 }
 
 // A key of the database as the library stores it.

@@ -31,9 +31,6 @@
 #ifndef CONCURRENT_LRU_CLOCK_HPP
 #define CONCURRENT_LRU_CLOCK_HPP
 
-#include <pthread.h>
-
-#include <atomic>
 #include <cassert>
 #include <condition_variable>
 #include <cstddef>
@@ -41,7 +38,6 @@
 #include <functional>
 #include <memory>
 #include <mutex>
-#include <new>
 #include <optional>
 #include <stdexcept>
 #include <type_traits>
@@ -49,6 +45,7 @@
 #include <vector>
 
 #include "lru.hpp"
+#include "lru_clock_core.hpp"
 
 namespace lru {
 
@@ -58,133 +55,6 @@ template <class Value, class Key>
 class ClockMaker;
 
 namespace detail {
-
-// A thread that has a number, in the list of them. Its memory is the thread's own.
-struct NumberedThread {
-  static constexpr std::uint32_t kNone = UINT32_MAX;
-
-  std::uint32_t number = kNone;
-  bool is_ending = false;
-  NumberedThread* next = nullptr;
-};
-
-// Numbers the threads of the process that use a clock: each has the least number that no other
-// thread has, until it ends. Nothing here throws. It is visible, so that all shared libraries of a
-// program give the same numbers.
-class [[gnu::visibility("default")]] ThreadNumbers {
- public:
-  // The number of this thread, or kNone if it has none: there is no memory for it, or the thread
-  // is about to end.
-  static std::uint32_t mine() noexcept {
-    return mine_.number != NumberedThread::kNone ? mine_.number : take();
-  }
-
- private:
-  // What tells that a thread ends. A thread_local object would end the program if there is no
-  // memory to register its destructor. It is closed when the program ends, or the shared library
-  // that has this code is unloaded.
-  struct Key {
-    Key() noexcept : is_open(pthread_key_create(&key, give_back) == 0) {}
-    ~Key() {
-      if (is_open.exchange(false)) pthread_key_delete(key);
-    }
-
-    pthread_key_t key = 0;
-    std::atomic<bool> is_open;
-  };
-
-  [[gnu::cold, gnu::noinline]] static std::uint32_t take() noexcept {
-    static Key key;
-    NumberedThread* const mine = &mine_;
-    if (mine->is_ending || !key.is_open || pthread_setspecific(key.key, mine) != 0) {
-      return NumberedThread::kNone;
-    }
-    const std::lock_guard<std::mutex> lock(mutex_);
-    std::uint32_t number = 0;
-    NumberedThread** place = &first_;
-    for (; *place != nullptr && (*place)->number == number; number++) place = &(*place)->next;
-    mine->number = number;
-    mine->next = std::exchange(*place, mine);
-    return number;
-  }
-
-  static void give_back(void* at) noexcept {
-    auto* const mine = static_cast<NumberedThread*>(at);
-    const std::lock_guard<std::mutex> lock(mutex_);
-    NumberedThread** place = &first_;
-    while (*place != mine) place = &(*place)->next;
-    *place = mine->next;
-    mine->number = NumberedThread::kNone;
-    mine->is_ending = true;
-  }
-
-  static inline thread_local NumberedThread mine_;
-  static inline std::mutex mutex_;
-  static inline NumberedThread* first_ = nullptr;  // in the order of their numbers
-};
-
-// The readers of a cache: each thread has a lane of them, with a reader of each shard, which only
-// that thread uses. A reader is opened by the first call of its thread on its shard. The lanes are
-// in chunks, each for twice as many threads as the one before, which never move.
-class Lanes {
- public:
-  explicit Lanes(std::size_t shards) noexcept : lines_((shards + kInLine - 1) / kInLine) {}
-
-  ~Lanes() {
-    for (std::size_t number = 0; number < kChunks; number++) {
-      const std::unique_ptr<Line[]> chunk(chunks_[number].load(std::memory_order_acquire));
-      if (chunk == nullptr) continue;
-      for (std::size_t line = 0; line < count_of(number); line++) {
-        for (lru_reader& reader : chunk[line].readers) lru_reader_free(&reader);
-      }
-    }
-  }
-
-  Lanes(const Lanes&) = delete;
-  Lanes& operator=(const Lanes&) = delete;
-
-  // This thread's reader of a shard, which need not be open. Null if the thread has no number, or
-  // there is no memory for its lane.
-  lru_reader* mine(std::size_t shard) noexcept {
-    const std::uint64_t number = ThreadNumbers::mine() + kFirst;
-    if (number >= kFirst << kChunks) return nullptr;
-    const std::size_t chunk = static_cast<std::size_t>(63 - __builtin_clzll(number / kFirst));
-    Line* lines = chunks_[chunk].load(std::memory_order_acquire);
-    if (lines == nullptr && (lines = add(chunk)) == nullptr) return nullptr;
-    const std::size_t lane = static_cast<std::size_t>(number - (kFirst << chunk));
-    return &lines[lane * lines_ + shard / kInLine].readers[shard % kInLine];
-  }
-
- private:
-  static constexpr std::size_t kInLine = 4;
-
-  // No two lanes share a line of the processor's cache.
-  struct alignas(64) Line {
-    lru_reader readers[kInLine];
-  };
-  static_assert(sizeof(Line) == 64, "lru: a line of readers is a line of the processor's cache");
-
-  // How many lanes the first chunk has, and how many chunks there are: enough for twice as many
-  // threads as Linux can have.
-  static constexpr std::uint64_t kFirst = 8;
-  static constexpr std::size_t kChunks = 20;
-
-  std::size_t count_of(std::size_t chunk) const noexcept {
-    return static_cast<std::size_t>(kFirst << chunk) * lines_;
-  }
-
-  [[gnu::cold, gnu::noinline]] Line* add(std::size_t number) noexcept {
-    std::unique_ptr<Line[]> chunk(new (std::nothrow) Line[count_of(number)]());
-    Line* other = nullptr;
-    if (chunk == nullptr || !chunks_[number].compare_exchange_strong(other, chunk.get())) {
-      return other;
-    }
-    return chunk.release();
-  }
-
-  const std::size_t lines_;  // of a lane
-  std::atomic<Line*> chunks_[kChunks] = {};
-};
 
 // A value of a ClockCache, on the heap.
 template <class Value>
@@ -202,13 +72,6 @@ struct ClockNode {
     std::uint64_t charge = 0;  // 0 once its key no longer finds it
     ClockNode* next;           // once it has left the cache
   };
-};
-
-// A key, the hash by which the clock of a shard finds it, and the shard.
-struct ClockKey {
-  Words words;
-  std::uint64_t hash;
-  std::uint32_t shard;
 };
 
 }  // namespace detail
@@ -394,14 +257,8 @@ class alignas(64) ClockCache {
   ClockCache(std::uint64_t capacity, Seed seed)
       : ClockCache(capacity, seed, shards_for(capacity, 1)) {}
   ClockCache(std::uint64_t capacity, Seed seed, std::size_t shards)
-      : seed_(seed), count_(checked(shards)), shards_(new Shard[shards]), lanes_(shards) {
-    for (std::size_t i = 0; i < shards; i++) {
-      Shard& shard = shards_[i];
-      if (lru_clock_new(detail::share(capacity, count_), &shard.clock) != LRU_DONE ||
-          lru_reader_new(&shard.clock, &shard.reader) != LRU_DONE) {
-        throw OutOfMemory();
-      }
-    }
+      : shards_(checked(shards), seed) {
+    if (!shards_.open(capacity)) throw OutOfMemory();
   }
 
   // Deletes all values. There must be no handle and no maker left, as it would dangle; this is
@@ -409,9 +266,8 @@ class alignas(64) ClockCache {
   // values throws std::logic_error, which ends the program if it leaves a destructor.
   ~ClockCache() {
     Evicted evicted;
-    for (std::size_t i = 0; i < count_; i++) {
-      Shard& shard = shards_[i];
-      prune(&shard, &evicted);
+    for (Shard& shard : shards_) {
+      shard.prune(&evicted);
       [[maybe_unused]] const lru_code code = lru_clock_free(&shard.clock);
       assert(code == LRU_DONE && shard.makers == nullptr &&
              "lru: a handle or a maker outlives its cache");
@@ -467,8 +323,8 @@ class alignas(64) ClockCache {
                   "lru: init is called with the key, as `[](const Key& key) { .. }` can be");
     if (charge == 0) detail::throw_refusal(LRU_NO_CHARGE);
     const Hashed hashed = hash(key);
-    lru_reader* const reader = lanes_.mine(hashed.shard);
-    lru_found found = pin(reader, hashed);
+    lru_reader* const reader = shards_.mine(hashed.shard);
+    lru_found found = Shards::pin(reader, hashed);
     if (found.code == LRU_HIT) return handle(found, hashed.shard);
     Maker maker;
     found = begin(hashed, charge, closed(reader, found), true, &maker);
@@ -507,15 +363,12 @@ class alignas(64) ClockCache {
     Shard& shard = shards_[hashed.shard];
     Evicted evicted;
     Lock lock(shard.mutex);
-    if (charge > UINT64_MAX - lru_clock_total(&shard.clock).value) {
-      detail::throw_refusal(LRU_OVERFLOW);
-    }
+    if (charge > UINT64_MAX - shard.total()) detail::throw_refusal(LRU_OVERFLOW);
     const bool is_awaited = detach(&shard, hashed, &evicted);
-    make_room(&shard, charge, &evicted);
+    shard.make_room(charge, &evicted);
     node->key = hashed.words;
     node->charge = charge;
-    const lru_found found = lru_clock_add(&shard.clock, hashed.hash, hashed.words.first,
-                                          hashed.words.second, charge, word_of(node.get()));
+    const lru_found found = shard.add(hashed, charge, node.get());
     lock.unlock();
     if (is_awaited) shard.ended.notify_all();
     if (found.code != LRU_DONE) detail::throw_refusal(found.code);
@@ -543,10 +396,10 @@ class alignas(64) ClockCache {
 
   // Evicts every idle value, one shard after another.
   void prune() {
-    for (std::size_t i = 0; i < count_; i++) {
+    for (Shard& shard : shards_) {
       Evicted evicted;
-      const Lock lock(shards_[i].mutex);
-      prune(&shards_[i], &evicted);
+      const Lock lock(shard.mutex);
+      shard.prune(&evicted);
     }
   }
 
@@ -554,7 +407,7 @@ class alignas(64) ClockCache {
   // What other threads insert meanwhile may stay. Needs no memory. Throws Overflow if a value has
   // about 2^30 handles; values of other keys may have left then.
   void clear() {
-    for (std::size_t i = 0; i < count_; i++) clear(&shards_[i]);
+    for (Shard& shard : shards_) clear(&shard);
   }
 
   // Takes the values away, as `invalidate` does, for which `predicate(key, value, charge)` is true,
@@ -568,18 +421,18 @@ class alignas(64) ClockCache {
   template <class Predicate>
   std::uint64_t erase_if(Predicate&& predicate) {
     std::uint64_t erased = 0;
-    for (std::size_t i = 0; i < count_; i++) {
+    for (Shard& shard : shards_) {
       Evicted evicted;
-      const Lock lock(shards_[i].mutex);
+      const Lock lock(shard.mutex);
       std::vector<Hashed> chosen;
-      visit(&shards_[i], &evicted, [&](Node& node) {
+      visit(&shard, &evicted, [&](Node& node) {
         const Value& value = node.value;
         if (std::invoke(predicate, Shown::of(node.key), value, std::uint64_t{node.charge})) {
-          chosen.push_back(hash_words(node.key));
+          chosen.push_back(shards_.hash(node.key));
         }
       });
       // None of these keys is being made, as it has a value.
-      for (const Hashed& key : chosen) detach(&shards_[i], key, &evicted);
+      for (const Hashed& key : chosen) detach(&shard, key, &evicted);
       erased += chosen.size();
     }
     return erased;
@@ -594,10 +447,10 @@ class alignas(64) ClockCache {
   // change it. Throws what `visit` throws, and Overflow if a value has about 2^30 handles.
   template <class Visit>
   void for_each(Visit&& visit) const {
-    for (std::size_t i = 0; i < count_; i++) {
+    for (Shard& shard : shards_) {
       Evicted evicted;
-      const Lock lock(shards_[i].mutex);
-      this->visit(&shards_[i], &evicted, [&](Node& node) {
+      const Lock lock(shard.mutex);
+      this->visit(&shard, &evicted, [&](Node& node) {
         std::invoke(visit, Shown::of(node.key), node.value, std::uint64_t{node.charge});
       });
     }
@@ -606,32 +459,38 @@ class alignas(64) ClockCache {
   // The number of values, including those that were invalidated or replaced and still have a
   // handle, but not those that are being made. The shards are read one after another, so while
   // other threads call the cache it is no snapshot.
-  std::uint64_t len() const { return sum(lru_clock_len); }
+  std::uint64_t len() const {
+    return shards_.sum([](Shard& shard) { return shard.len(); });
+  }
 
   // The total of the charges of these values, or 2^64 - 1 if it is more. No snapshot, as `len`.
-  std::uint64_t total_charge() const { return sum(lru_clock_total); }
+  std::uint64_t total_charge() const {
+    return shards_.sum([](Shard& shard) { return shard.total(); });
+  }
 
   // The total of the charges of the values that have a handle, or 2^64 - 1 if it is more. No
   // snapshot, as `len`. Takes time in proportion to the greatest number of values that there were
   // at once.
-  std::uint64_t pinned_charge() const { return sum(lru_clock_pinned_charge); }
+  std::uint64_t pinned_charge() const {
+    return shards_.sum([](Shard& shard) { return shard.pinned_charge(); });
+  }
 
   // The total of the capacities of all shards, or 2^64 - 1 if it is more. Rounding may make it
   // more than the capacity that was set.
-  std::uint64_t capacity() const { return sum(lru_clock_capacity); }
+  std::uint64_t capacity() const {
+    return shards_.sum([](Shard& shard) { return shard.capacity(); });
+  }
 
   // The number of shards.
-  std::size_t shards() const noexcept { return count_; }
+  std::size_t shards() const noexcept { return shards_.count(); }
 
   // Sets the capacity, of which each shard gets an equal share, rounded up. Idle values that exceed
   // it are evicted at once.
   void set_capacity(std::uint64_t capacity) {
-    for (std::size_t i = 0; i < count_; i++) {
-      Shard& shard = shards_[i];
+    for (Shard& shard : shards_) {
       Evicted evicted;
       const Lock lock(shard.mutex);
-      lru_clock_set_capacity(&shard.clock, detail::share(capacity, count_));
-      make_room(&shard, 0, &evicted);
+      shard.set_capacity(detail::share(capacity, shards_.count()), &evicted);
     }
   }
 
@@ -645,20 +504,11 @@ class alignas(64) ClockCache {
   using Evicted = detail::Evicted<Node>;
   using Lock = std::unique_lock<detail::Mutex>;
 
-  // What the lock of a shard protects. A hit reads none of it. Shards do not share cache lines, so
-  // that threads at different shards do not slow each other.
-  struct alignas(64) Shard {
-    ~Shard() {
-      lru_reader_free(&reader);
-      lru_clock_free(&clock);
-    }
-
-    detail::Mutex mutex;
-    lru_clock clock = {};
-    lru_reader reader = {};         // for any thread that holds the lock
+  struct Shard : detail::ClockShard<Node> {
     Maker* makers = nullptr;        // of the values that are being made
     std::condition_variable ended;  // notified when a maker that others wait for has ended
   };
+  using Shards = detail::ClockShards<Shard>;
 
   static std::size_t checked(std::size_t shards) {
     if (shards == 0 || shards > UINT32_MAX) {
@@ -667,42 +517,14 @@ class alignas(64) ClockCache {
     return shards;
   }
 
-  template <class Number>
-  std::uint64_t sum(Number number) const {
-    std::uint64_t sum = 0;
-    for (std::size_t i = 0; i < count_; i++) {
-      const Lock lock(shards_[i].mutex);
-      sum = detail::saturating_add(sum, number(&shards_[i].clock).value);
-    }
-    return sum;
-  }
+  Hashed hash(Argument key) const { return shards_.hash(lru::Key<Key>::written(key)); }
 
-  // The lower half of the hash chooses the shard, and a clock uses the upper half. Both depend on
-  // all bits of the key.
-  Hashed hash(Argument key) const { return hash_words(lru::Key<Key>::written(key)); }
-  Hashed hash_words(Words words) const noexcept {
-    const std::uint64_t mixed = lru_hash_multiply(words.first ^ seed_.number, 0x9e3779b97f4a7c05u);
-    const std::uint64_t hash = lru_hash_multiply(mixed ^ words.second, 0xbf58476d1ce4e5b9u);
-    const std::uint64_t shard = std::uint64_t{static_cast<std::uint32_t>(hash)} * count_ >> 32;
-    return {words, hash, static_cast<std::uint32_t>(shard)};
-  }
-
-  static Node* node_of(std::uint64_t value) noexcept {
-    return reinterpret_cast<Node*>(static_cast<std::uintptr_t>(value));
-  }
-  static std::uint64_t word_of(Node* node) noexcept {
-    return static_cast<std::uint64_t>(reinterpret_cast<std::uintptr_t>(node));
+  static Node* node_of(const lru_found& found) noexcept {
+    return detail::node_of<Node>(found.value);
   }
 
   Handle handle(const lru_found& found, std::uint32_t shard) const noexcept {
-    return Handle(this, node_of(found.value), found.place, shard);
-  }
-
-  // Without the lock. A reader that is null or not open is answered as a closed one.
-
-  static lru_found pin(lru_reader* reader, const Hashed& key) noexcept {
-    if (reader == nullptr) return {0, LRU_CLOSED, 0};
-    return lru_reader_pin(reader, key.hash, key.words.first, key.words.second);
+    return Handle(this, node_of(found), found.place, shard);
   }
 
   // The reader if it was found to be closed, or else null. To open one that is open would write
@@ -711,72 +533,48 @@ class alignas(64) ClockCache {
     return found.code == LRU_CLOSED ? reader : nullptr;
   }
 
+  // Misses no value, as a look-up without the lock may while the clock is written.
   Handle find(const Hashed& key) const {
-    lru_reader* const reader = lanes_.mine(key.shard);
-    lru_found found = pin(reader, key);
-    if (found.code != LRU_HIT) found = find_locked(key, closed(reader, found));
-    return found.code == LRU_HIT ? handle(found, key.shard) : Handle();
+    lru_reader* const reader = shards_.mine(key.shard);
+    lru_found found = Shards::pin(reader, key);
+    if (found.code != LRU_HIT) {
+      found = shards_.find_locked(key, closed(reader, found));
+      if (found.code == LRU_MISSED) return Handle();
+      if (found.code != LRU_HIT) detail::throw_refusal(found.code);
+    }
+    return handle(found, key.shard);
   }
 
   // Another handle of the value at a place, which a handle of the caller pins.
-  Handle repin(std::uint32_t number, std::uint32_t place) const {
-    lru_reader* const reader = lanes_.mine(number);
-    lru_found found = {0, LRU_CLOSED, 0};
-    if (reader != nullptr) found = lru_reader_pin_at(reader, place);
-    if (found.code == LRU_CLOSED) {
-      Shard& shard = shards_[number];
-      const Lock lock(shard.mutex);
-      open(&shard, reader);
-      found = lru_reader_pin_at(&shard.reader, place);
-    }
+  Handle repin(std::uint32_t shard, std::uint32_t place) const {
+    const lru_found found = shards_.pin_at(shard, place);
     if (found.code != LRU_HIT) detail::throw_refusal(found.code);
-    return handle(found, number);
+    return handle(found, shard);
   }
 
-  void release(std::uint32_t number, std::uint32_t place) const noexcept {
-    lru_reader* const reader = lanes_.mine(number);
-    lru_code code = LRU_CLOSED;
-    if (reader != nullptr) code = lru_reader_unpin(reader, place);
-    if (code != LRU_DONE) release_locked(number, place, reader, code);
+  void release(std::uint32_t shard, std::uint32_t place) const noexcept {
+    lru_reader* const reader = shards_.mine(shard);
+    const lru_code code = Shards::unpin(reader, place);
+    if (code != LRU_DONE) release_locked(shard, place, reader, code);
   }
 
   // These take the lock.
 
-  // Misses no value, as a look-up without the lock may while the clock is written. Opens the
-  // reader, unless it is null.
-  [[gnu::cold, gnu::noinline]] lru_found find_locked(const Hashed& key, lru_reader* reader) const {
-    Shard& shard = shards_[key.shard];
-    Lock lock(shard.mutex);
-    open(&shard, reader);
-    const lru_found found =
-        lru_clock_find(&shard.clock, key.hash, key.words.first, key.words.second);
-    lock.unlock();
-    if (found.code != LRU_HIT && found.code != LRU_MISSED) detail::throw_refusal(found.code);
-    return found;
-  }
-
-  // Gives a pin back, if the reader was not open, and takes out the value if that was the last pin
-  // of one that was invalidated.
   [[gnu::cold, gnu::noinline]] void release_locked(std::uint32_t number, std::uint32_t place,
                                                    lru_reader* reader,
                                                    lru_code code) const noexcept {
     Shard& shard = shards_[number];
     Evicted evicted;
     const Lock lock(shard.mutex);
-    if (code == LRU_CLOSED) {
-      open(&shard, reader);
-      code = lru_reader_unpin(&shard.reader, place);
-    }
-    assert(code == LRU_DONE || code == LRU_LAST);
-    if (code == LRU_LAST) collect(&shard, place, &evicted);
+    shard.end_unpin(place, reader, code, &evicted);
   }
 
   Begun begin(Argument key, std::uint64_t charge, bool waits) {
     Begun begun;
     if (charge == 0) detail::throw_refusal(LRU_NO_CHARGE);
     const Hashed hashed = hash(key);
-    lru_reader* const reader = lanes_.mine(hashed.shard);
-    lru_found found = pin(reader, hashed);
+    lru_reader* const reader = shards_.mine(hashed.shard);
+    lru_found found = Shards::pin(reader, hashed);
     if (found.code != LRU_HIT) {
       found = begin(hashed, charge, closed(reader, found), waits, &begun.maker);
     }
@@ -793,7 +591,7 @@ class alignas(64) ClockCache {
       return lru_clock_begin(&shard.clock, key.hash, key.words.first, key.words.second, charge);
     };
     Lock lock(shard.mutex);
-    open(&shard, reader);
+    shard.open_reader(reader);
     lru_found found = ask();
     while (found.code == LRU_WAIT && waits) {
       making(shard, key.words)->is_awaited_ = true;
@@ -819,11 +617,11 @@ class alignas(64) ClockCache {
     Shard& shard = shards_[key.shard];
     Evicted evicted;
     Lock lock(shard.mutex);
-    make_room(&shard, maker->charge_, &evicted);
+    shard.make_room(maker->charge_, &evicted);
     made->key = key.words;
     made->charge = maker->is_detached_ ? 0 : maker->charge_;
     const lru_found found = lru_clock_ready(&shard.clock, maker->ticket_, key.hash, maker->charge_,
-                                            word_of(made.get()));
+                                            detail::word_of(made.get()));
     delist(maker);
     const bool is_awaited = maker->is_awaited_;
     lock.unlock();
@@ -858,7 +656,7 @@ class alignas(64) ClockCache {
     Evicted evicted;
     bool is_awaited = false;
     Lock lock(shard->mutex);
-    visit(shard, &evicted, [&](Node& node) { detach(shard, hash_words(node.key), &evicted); });
+    visit(shard, &evicted, [&](Node& node) { detach(shard, shards_.hash(node.key), &evicted); });
     for (const Maker* maker = shard->makers; maker != nullptr; maker = maker->next_) {
       if (!maker->is_detached_) is_awaited |= detach(shard, maker->key_, &evicted);
     }
@@ -868,50 +666,18 @@ class alignas(64) ClockCache {
 
   // The caller of the rest holds the lock.
 
-  // Opens this thread's reader, unless it is null. If there is no memory for it, the thread tries
-  // again with its next call.
-  static void open(Shard* shard, lru_reader* reader) noexcept {
-    if (reader != nullptr) lru_reader_new(&shard->clock, reader);
-  }
-
-  static void make_room(Shard* shard, std::uint64_t charge, Evicted* evicted) noexcept {
-    lru_left left;
-    while (lru_clock_make_room(&shard->clock, charge, &left) == LRU_GONE) {
-      evicted->add(node_of(left.value));
-    }
-  }
-
-  static void prune(Shard* shard, Evicted* evicted) noexcept {
-    lru_left left;
-    std::uint32_t next = 0;
-    while (lru_clock_prune(&shard->clock, &next, &left) == LRU_GONE) {
-      evicted->add(node_of(left.value));
-    }
-  }
-
-  static void collect(Shard* shard, std::uint32_t place, Evicted* evicted) noexcept {
-    lru_left left;
-    if (lru_clock_collect(&shard->clock, place, &left) == LRU_GONE) {
-      evicted->add(node_of(left.value));
-    }
-  }
-
-  static void unpin(Shard* shard, std::uint32_t place, Evicted* evicted) noexcept {
-    if (lru_reader_unpin(&shard->reader, place) == LRU_LAST) collect(shard, place, evicted);
-  }
-
   // Takes a key's value away, and the making of one. Returns whether callers wait for that. The
   // value is pinned meanwhile, which tells its node. Throws before anything has changed.
   static bool detach(Shard* shard, const Hashed& key, Evicted* evicted) {
-    const lru_found found =
-        lru_clock_find(&shard->clock, key.hash, key.words.first, key.words.second);
-    if (found.code != LRU_HIT && found.code != LRU_MISSED) detail::throw_refusal(found.code);
-    if (found.code == LRU_HIT) node_of(found.value)->charge = 0;
-    lru_left left;
-    [[maybe_unused]] const lru_code code =
-        lru_clock_erase(&shard->clock, key.hash, key.words.first, key.words.second, &left);
-    assert(code == LRU_DONE);
-    if (found.code == LRU_HIT) unpin(shard, found.place, evicted);
+    const lru_found found = shard->find(key);
+    if (found.code == LRU_HIT) {
+      node_of(found)->charge = 0;
+      shard->detach(key, found.place, evicted);
+    } else if (found.code == LRU_MISSED) {
+      shard->erase(key, evicted);
+    } else {
+      detail::throw_refusal(found.code);
+    }
     Maker* const maker = making(*shard, key.words);
     if (maker == nullptr) return false;
     maker->is_detached_ = true;
@@ -922,19 +688,19 @@ class alignas(64) ClockCache {
   template <class Visit>
   static void visit(Shard* shard, Evicted* evicted, Visit visit) {
     struct Pinned {
-      ~Pinned() { unpin(shard, place, evicted); }
+      ~Pinned() { shard->unpin(place, evicted); }
 
       Shard* shard;
       std::uint32_t place;
       Evicted* evicted;
     };
-    const std::uint64_t places = lru_clock_places(&shard->clock).value;
+    const std::uint32_t places = shard->places();
     for (std::uint32_t place = 0; place < places; place++) {
       const lru_found found = lru_reader_pin_at(&shard->reader, place);
       if (found.code == LRU_MISSED) continue;
       if (found.code != LRU_HIT) detail::throw_refusal(found.code);
       const Pinned pinned{shard, place, evicted};
-      if (node_of(found.value)->charge != 0) visit(*node_of(found.value));
+      if (node_of(found)->charge != 0) visit(*node_of(found));
     }
   }
 
@@ -961,10 +727,7 @@ class alignas(64) ClockCache {
     if (maker->next_ != nullptr) maker->next_->place_ = maker->place_;
   }
 
-  const Seed seed_;
-  const std::size_t count_;
-  const std::unique_ptr<Shard[]> shards_;
-  mutable detail::Lanes lanes_;
+  Shards shards_;
 };
 
 }  // namespace lru

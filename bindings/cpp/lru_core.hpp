@@ -1,6 +1,6 @@
-// The library of lru.h as C++ classes without a lock, and a mutex. lru.hpp, lru_clock.hpp,
-// leveldb_cache.h and rocksdb_cache.h are built on them. Nothing here throws except Seed::random,
-// and the header compiles with -fno-exceptions and -fno-rtti.
+// The library of lru.h as C++ classes without a lock, and a mutex. The other headers for C++ are
+// built on them. Nothing here throws except Seed::random, and the header compiles with
+// -fno-exceptions and -fno-rtti.
 #ifndef CONCURRENT_LRU_CORE_HPP
 #define CONCURRENT_LRU_CORE_HPP
 
@@ -73,6 +73,11 @@ struct HashedBytes {
 // cache. `volatile` keeps the compiler from joining the reads.
 inline lru_pin copy_of(const volatile lru_pin& told) noexcept {
   return lru_pin{told.stamp, told.hash, told.place};
+}
+
+// A sum that stays at 2^64 - 1 if it would be more.
+inline std::uint64_t saturating_add(std::uint64_t a, std::uint64_t b) noexcept {
+  return b > UINT64_MAX - a ? UINT64_MAX : a + b;
 }
 
 // The part of a capacity that each of so many shards gets: equal ones, rounded up.
@@ -201,6 +206,16 @@ class Mutex {
 
   std::mutex mutex_;
 };
+
+// The node whose address is a value of the library, and that value.
+template <class Node>
+Node* node_of(std::uint64_t value) noexcept {
+  return reinterpret_cast<Node*>(static_cast<std::uintptr_t>(value));
+}
+template <class Node>
+std::uint64_t word_of(Node* node) noexcept {
+  return static_cast<std::uint64_t>(reinterpret_cast<std::uintptr_t>(node));
+}
 
 // Nodes that were evicted, oldest first. The destructor deletes them. It must run without the lock:
 // the destructor of a value may take long, and may call the cache.
@@ -358,24 +373,15 @@ class Core {
     return stats;
   }
 
-  // The node of a value that the library told.
-  static Node* node_of(std::uint64_t value) noexcept {
-    return reinterpret_cast<Node*>(static_cast<std::uintptr_t>(value));
-  }
-
  private:
   using Calls = detail::Calls<Key>;
-
-  static std::uint64_t word_of(Node* node) noexcept {
-    return static_cast<std::uint64_t>(reinterpret_cast<std::uintptr_t>(node));
-  }
 
   // Empties the chain, as the next call needs it empty. Most calls evict nothing.
   void take_evicted(Evicted<Node>* evicted) noexcept {
     lru_gone gone;
     while (!lru_chain_is_empty(&chain_)) {
       lru_chain_pop(&chain_, &gone);
-      evicted->add(node_of(gone.value));
+      evicted->add(node_of<Node>(gone.value));
     }
   }
 

@@ -104,10 +104,138 @@ struct RocksDBCacheOptions : BlockCacheOptions {
   bool strict_capacity_limit = false;
 };
 
+namespace detail {
+
+#if ROCKSDB_MAJOR == 7
+using RocksDBHelper = rocksdb::Cache::DeleterFn;
+#else
+using RocksDBHelper = const rocksdb::Cache::CacheItemHelper*;
+#endif
+
+// Deletes the value of an entry, unless the helper is null or has no deleter.
+struct RocksDBDeleter {
+  RocksDBHelper helper;
+#if ROCKSDB_MAJOR == 7
+  void operator()(const rocksdb::Slice& key, void* value) const {
+    if (helper != nullptr) helper(key, value);
+  }
+#else
+  void operator()(const rocksdb::Slice&, void* value) const {
+    if (helper != nullptr && helper->del_cb != nullptr) helper->del_cb(value, nullptr);
+  }
+#endif
+};
+
+// The members of a cache that RocksDB 8 and 9 changed, and those that only read an entry. A `Self`
+// has the members that these call. Handles are the addresses of entries.
+template <class Self, class Entry>
+class RocksDBInterface : public rocksdb::Cache {
+ public:
+  using Helper = RocksDBHelper;
+
+#if ROCKSDB_MAJOR == 7
+  using rocksdb::Cache::Insert;
+  rocksdb::Status Insert(const rocksdb::Slice& key, void* value, std::size_t charge,
+                         DeleterFn deleter, Handle** handle = nullptr,
+                         Priority = Priority::LOW) override {
+    const rocksdb::Status status = self()->InsertValue(key, value, deleter, charge, handle);
+    if (!status.ok() && handle == nullptr) RocksDBDeleter{deleter}(key, value);
+    return status;
+  }
+
+  using rocksdb::Cache::Lookup;
+  Handle* Lookup(const rocksdb::Slice& key, rocksdb::Statistics* = nullptr) override {
+    return HandleOf(self()->Find(key));
+  }
+
+  DeleterFn GetDeleter(Handle* handle) const override { return EntryOf(handle)->deleter.helper; }
+#else
+  rocksdb::Status Insert(
+      const rocksdb::Slice& key, ObjectPtr value, const CacheItemHelper* helper,
+      std::size_t charge, Handle** handle = nullptr, Priority = Priority::LOW,
+      const rocksdb::Slice& = rocksdb::Slice(),
+      rocksdb::CompressionType = rocksdb::CompressionType::kNoCompression) override {
+    return self()->InsertValue(key, value, helper, charge, handle);
+  }
+
+  Handle* CreateStandalone(const rocksdb::Slice& key, ObjectPtr value,
+                           const CacheItemHelper* helper, std::size_t charge,
+                           bool allow_uncharged) override {
+    return HandleOf(self()->NewStandalone(key, value, helper, charge, allow_uncharged));
+  }
+
+  Handle* Lookup(const rocksdb::Slice& key, const CacheItemHelper* = nullptr,
+                 CreateContext* = nullptr, Priority = Priority::LOW,
+                 rocksdb::Statistics* = nullptr) override {
+    return HandleOf(self()->Find(key));
+  }
+
+  const CacheItemHelper* GetCacheItemHelper(Handle* handle) const override {
+    return EntryOf(handle)->deleter.helper;
+  }
+
+  void ApplyToHandle(rocksdb::Cache*, Handle* handle,
+                     const std::function<void(const rocksdb::Slice& key, ObjectPtr value,
+                                              std::size_t charge, const CacheItemHelper* helper)>&
+                         callback) override {
+    Visit(*EntryOf(handle), callback);
+  }
+#endif
+
+  void ApplyToAllEntries(const std::function<void(const rocksdb::Slice& key, void* value,
+                                                  std::size_t charge, Helper helper)>& callback,
+                         const ApplyToAllEntriesOptions&) override {
+    self()->ForEachFound([&](const Entry& entry) { Visit(entry, callback); });
+  }
+
+  void* Value(Handle* handle) override { return EntryOf(handle)->value; }
+  std::size_t GetUsage(Handle* handle) const override { return EntryOf(handle)->charge; }
+  std::size_t GetCharge(Handle* handle) const override { return EntryOf(handle)->charge; }
+
+ protected:
+  static Handle* HandleOf(Entry* entry) { return reinterpret_cast<Handle*>(entry); }
+  static Entry* EntryOf(Handle* handle) { return reinterpret_cast<Entry*>(handle); }
+
+  // GetPrintableOptions, of a cache with these.
+  std::string Printable(std::size_t shards, bool charges_metadata) const {
+    char text[160];
+    std::snprintf(text, sizeof text,
+                  "    capacity : %zu\n    shards : %zu\n    strict_capacity_limit : %d\n"
+                  "    charges_metadata : %d\n",
+                  GetCapacity(), shards, HasStrictCapacityLimit() ? 1 : 0,
+                  charges_metadata ? 1 : 0);
+    return text;
+  }
+
+ private:
+  Self* self() { return static_cast<Self*>(this); }
+
+  template <class Callback>
+  static void Visit(const Entry& entry, const Callback& callback) {
+    callback(entry.key(), entry.value, entry.charge, entry.deleter.helper);
+  }
+};
+
+struct RocksDBMore {
+  // Of an entry that is not in the cache, how many handles it has besides one.
+  std::atomic<std::size_t> other_handles{0};
+  std::size_t charge = 0;  // last, as a hit reads it with what follows
+};
+
+using RocksDBEntry = BlockEntry<rocksdb::Slice, RocksDBDeleter, RocksDBMore>;
+
+}  // namespace detail
+
 // `Key` is how the library stores keys: std::string_view or Words.
 template <class Key>
-class BasicRocksDBCache : public rocksdb::Cache {
+class BasicRocksDBCache
+    : public detail::RocksDBInterface<BasicRocksDBCache<Key>, detail::RocksDBEntry> {
+  using Interface = detail::RocksDBInterface<BasicRocksDBCache<Key>, detail::RocksDBEntry>;
+
  public:
+  using Handle = rocksdb::Cache::Handle;
+  using Helper = detail::RocksDBHelper;
+
   // A good number of shards for blocks of this size: the most, from 1 to 64, that leave each shard
   // a capacity of 512 KiB, and of four blocks. Unless a number is passed, a cache has as many as
   // for blocks of 4 KiB.
@@ -143,77 +271,8 @@ class BasicRocksDBCache : public rocksdb::Cache {
   BasicRocksDBCache(const BasicRocksDBCache&) = delete;
   BasicRocksDBCache& operator=(const BasicRocksDBCache&) = delete;
 
-  // These are as rocksdb/cache.h or rocksdb/advanced_cache.h describes them, with the differences
-  // above. Any thread may call them at any time. First those that changed in RocksDB 8 and 9.
-
-#if ROCKSDB_MAJOR == 7
-  using Helper = DeleterFn;
-
-  using rocksdb::Cache::Insert;
-  rocksdb::Status Insert(const rocksdb::Slice& key, void* value, std::size_t charge,
-                         DeleterFn deleter, Handle** handle = nullptr,
-                         Priority = Priority::LOW) override {
-    const rocksdb::Status status = InsertValue(key, value, deleter, charge, handle);
-    // Without a handle, it is refused only if there is no memory for an entry.
-    if (!status.ok() && handle == nullptr) Deleter{deleter}(key, value);
-    return status;
-  }
-
-  using rocksdb::Cache::Lookup;
-  Handle* Lookup(const rocksdb::Slice& key, rocksdb::Statistics* = nullptr) override {
-    return Find(key);
-  }
-
-  DeleterFn GetDeleter(Handle* handle) const override { return EntryOf(handle)->deleter.helper; }
-#else
-  using Helper = const CacheItemHelper*;
-
-  rocksdb::Status Insert(
-      const rocksdb::Slice& key, ObjectPtr value, const CacheItemHelper* helper,
-      std::size_t charge, Handle** handle = nullptr, Priority = Priority::LOW,
-      const rocksdb::Slice& = rocksdb::Slice(),
-      rocksdb::CompressionType = rocksdb::CompressionType::kNoCompression) override {
-    return InsertValue(key, value, helper, charge, handle);
-  }
-
-  Handle* CreateStandalone(const rocksdb::Slice& key, ObjectPtr value,
-                           const CacheItemHelper* helper, std::size_t charge,
-                           bool allow_uncharged) override {
-    Entry* entry = NewEntry(key, value, helper, charge);
-    if (entry == nullptr) return nullptr;
-    entry->shard = CanStore(key) ? ShardOf(Hashed(key)) : 0;
-    Call call(&shards_[entry->shard]);
-    const bool is_strict = is_strict_;
-    if (!is_strict || call.HasRoom(WeightOf(*entry))) {
-      call.AddDetached(entry, WeightOf(*entry), shards_.seed());
-    }
-    if (!entry->is_cached) {
-      if (is_strict && !allow_uncharged) {
-        call.Refuse(entry);
-        return nullptr;
-      }
-      entry->charge = 0;
-    }
-    return HandleOf(entry);
-  }
-
-  Handle* Lookup(const rocksdb::Slice& key, const CacheItemHelper* = nullptr,
-                 CreateContext* = nullptr, Priority = Priority::LOW,
-                 rocksdb::Statistics* = nullptr) override {
-    return Find(key);
-  }
-
-  const CacheItemHelper* GetCacheItemHelper(Handle* handle) const override {
-    return EntryOf(handle)->deleter.helper;
-  }
-
-  void ApplyToHandle(rocksdb::Cache*, Handle* handle,
-                     const std::function<void(const rocksdb::Slice& key, ObjectPtr value,
-                                              std::size_t charge, const CacheItemHelper* helper)>&
-                         callback) override {
-    Visit(*EntryOf(handle), callback);
-  }
-#endif
+  // These, and those of RocksDBInterface, are as rocksdb/cache.h or rocksdb/advanced_cache.h
+  // describes them, with the differences above. Any thread may call them at any time.
 
   const char* Name() const override {
     return std::is_same_v<Key, Words> ? "lru::RocksDBBlockCache" : "lru::RocksDBCache";
@@ -230,7 +289,7 @@ class BasicRocksDBCache : public rocksdb::Cache {
     return shard.core.repin(entry->pin()).code == LRU_PINNED;
   }
 
-  using rocksdb::Cache::Release;
+  using Interface::Release;
   bool Release(Handle* handle, bool erase_if_last_ref = false) override {
     Entry* entry = EntryOf(handle);
     if (entry->is_cached) return Call(&shards_[entry->shard]).Release(entry, erase_if_last_ref);
@@ -238,8 +297,6 @@ class BasicRocksDBCache : public rocksdb::Cache {
     delete entry;
     return true;
   }
-
-  void* Value(Handle* handle) override { return EntryOf(handle)->value; }
 
   void Erase(const rocksdb::Slice& key) override {
     if (!CanStore(key)) return;
@@ -265,6 +322,7 @@ class BasicRocksDBCache : public rocksdb::Cache {
   }
   bool HasStrictCapacityLimit() const override { return is_strict_; }
 
+  using Interface::GetUsage;
   std::size_t GetUsage() const override {
     return shards_.Sum([](const Shard& shard) { return shard.core.total(); });
   }
@@ -275,55 +333,21 @@ class BasicRocksDBCache : public rocksdb::Cache {
     return shards_.Sum([](const Shard& shard) { return shard.core.len() - shard.detached; });
   }
 
-  std::size_t GetUsage(Handle* handle) const override { return EntryOf(handle)->charge; }
-  std::size_t GetCharge(Handle* handle) const override { return EntryOf(handle)->charge; }
-
-  void ApplyToAllEntries(const std::function<void(const rocksdb::Slice& key, void* value,
-                                                  std::size_t charge, Helper helper)>& callback,
-                         const ApplyToAllEntriesOptions&) override {
-    for (Shard& shard : shards_) {
-      Call(&shard).ForEachFound([&](const Entry& entry) { Visit(entry, callback); });
-    }
-  }
-
   void EraseUnRefEntries() override {
     for (Shard& shard : shards_) Call(&shard).EvictIdle();
   }
 
   std::string GetPrintableOptions() const override {
-    char text[160];
-    std::snprintf(text, sizeof text,
-                  "    capacity : %zu\n    shards : %zu\n    strict_capacity_limit : %d\n"
-                  "    charges_metadata : %d\n",
-                  GetCapacity(), shards_.count(), HasStrictCapacityLimit() ? 1 : 0,
-                  charges_metadata_ ? 1 : 0);
-    return text;
+    return Interface::Printable(shards_.count(), charges_metadata_);
   }
 
  private:
   static constexpr std::size_t kMostShards = 64;
 
-  // Deletes the value of an entry, unless the helper is null or has no deleter.
-  struct Deleter {
-    Helper helper;
-#if ROCKSDB_MAJOR == 7
-    void operator()(const rocksdb::Slice& key, void* value) const {
-      if (helper != nullptr) helper(key, value);
-    }
-#else
-    void operator()(const rocksdb::Slice&, void* value) const {
-      if (helper != nullptr && helper->del_cb != nullptr) helper->del_cb(value, nullptr);
-    }
-#endif
-  };
-
-  struct More {
-    // Of an entry that is not in the cache, how many handles it has besides one.
-    std::atomic<std::size_t> other_handles{0};
-    std::size_t charge = 0;  // last, as a hit reads it with what follows
-  };
-
-  using Entry = detail::BlockEntry<rocksdb::Slice, Deleter, More>;
+  friend Interface;
+  using Entry = detail::RocksDBEntry;
+  using Interface::EntryOf;
+  using Interface::HandleOf;
   using Core = detail::Core<Entry, Key>;
   using HashedKey = typename Core::Hashed;
 
@@ -426,7 +450,7 @@ class BasicRocksDBCache : public rocksdb::Cache {
       if (entries == nullptr) return;
       const std::size_t count = shard_.core.entries(entries.get(), room);
       for (std::size_t n = 0; n < count; n++) {
-        if (!entries[n].is_detached) visit(*Core::node_of(entries[n].value));
+        if (!entries[n].is_detached) visit(*detail::node_of<Entry>(entries[n].value));
       }
     }
 
@@ -444,7 +468,7 @@ class BasicRocksDBCache : public rocksdb::Cache {
     bool DetachFound(const lru_told& told, const HashedKey& hashed, const rocksdb::Slice& key) {
       if (told.code != LRU_HIT && told.code != LRU_OVERFLOW) return false;
       if (told.code == LRU_HIT) {
-        SetDetached(Core::node_of(told.value));
+        SetDetached(detail::node_of<Entry>(told.value));
       } else {
         // The total would overflow, and the key has no entry.
         if (shard_.core.contains(hashed) != LRU_DONE) return false;
@@ -454,7 +478,7 @@ class BasicRocksDBCache : public rocksdb::Cache {
         });
       }
       shard_.core.invalidate(hashed, &evicted_);
-      if (told.code == LRU_HIT) Release(Core::node_of(told.value), false);
+      if (told.code == LRU_HIT) Release(detail::node_of<Entry>(told.value), false);
       return true;
     }
 
@@ -489,14 +513,6 @@ class BasicRocksDBCache : public rocksdb::Cache {
     }
   }
 
-  static Handle* HandleOf(Entry* entry) { return reinterpret_cast<Handle*>(entry); }
-  static Entry* EntryOf(Handle* handle) { return reinterpret_cast<Entry*>(handle); }
-
-  template <class Callback>
-  static void Visit(const Entry& entry, const Callback& callback) {
-    callback(entry.key(), entry.value, entry.charge, entry.deleter.helper);
-  }
-
   bool Open(const RocksDBCacheOptions& options, Seed seed) {
     return shards_.Open(options, Metadata(sizeof(Words)), seed);
   }
@@ -519,7 +535,8 @@ class BasicRocksDBCache : public rocksdb::Cache {
     return entry;
   }
 
-  // Insert, which leaves the value to the caller unless it returns OK.
+  // Insert, which leaves the value to the caller unless it returns OK. Without a handle, it is
+  // refused only if there is no memory for an entry.
   rocksdb::Status InsertValue(const rocksdb::Slice& key, void* value, Helper helper,
                               std::size_t charge, Handle** handle) {
     if (handle != nullptr) *handle = nullptr;
@@ -564,7 +581,33 @@ class BasicRocksDBCache : public rocksdb::Cache {
     return replaces ? rocksdb::Status::OkOverwritten() : rocksdb::Status::OK();
   }
 
-  Handle* Find(const rocksdb::Slice& key) {
+  // An entry that counts and that no key finds, or null.
+  Entry* NewStandalone(const rocksdb::Slice& key, void* value, Helper helper, std::size_t charge,
+                       bool allow_uncharged) {
+    Entry* entry = NewEntry(key, value, helper, charge);
+    if (entry == nullptr) return nullptr;
+    entry->shard = CanStore(key) ? ShardOf(Hashed(key)) : 0;
+    Call call(&shards_[entry->shard]);
+    const bool is_strict = is_strict_;
+    if (!is_strict || call.HasRoom(WeightOf(*entry))) {
+      call.AddDetached(entry, WeightOf(*entry), shards_.seed());
+    }
+    if (!entry->is_cached) {
+      if (is_strict && !allow_uncharged) {
+        call.Refuse(entry);
+        return nullptr;
+      }
+      entry->charge = 0;
+    }
+    return entry;
+  }
+
+  template <class Visit>
+  void ForEachFound(const Visit& visit) {
+    for (Shard& shard : shards_) Call(&shard).ForEachFound(visit);
+  }
+
+  Entry* Find(const rocksdb::Slice& key) {
     if (!CanStore(key)) return nullptr;
     const HashedKey hashed = Hashed(key);
     Shard& shard = shards_[ShardOf(hashed)];
@@ -572,7 +615,7 @@ class BasicRocksDBCache : public rocksdb::Cache {
     const lru_told told = shard.core.get(hashed);
     // It is a miss too if the entry has 2^32 - 1 handles. If the key is longer than any before and
     // there is no memory for a copy, it has no entry.
-    return told.code == LRU_HIT ? HandleOf(Core::node_of(told.value)) : nullptr;
+    return told.code == LRU_HIT ? detail::node_of<Entry>(told.value) : nullptr;
   }
 
   detail::Shards<Shard, kMostShards> shards_;

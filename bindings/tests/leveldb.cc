@@ -1,6 +1,8 @@
-// Reads a database of 20,000 keys with this block cache and with LevelDB's own, at three
-// capacities. All answers must be equal, and the numbers of hits and insertions and the total
-// charge at the end. Prints these numbers, and exits with 1 if something differs.
+// Reads a database of 20,000 keys with these block caches and with LevelDB's own, at three
+// capacities, and one of 200,000 keys with that of the clock and with LevelDB's own. All answers
+// must be equal, and the numbers of hits and insertions and the total charge at the end. With the
+// clock, which evicts other blocks, only the answers must be, and the hits must be about as many.
+// Prints these numbers, and exits with 1 if something differs.
 #include <cstdint>
 #include <cstdio>
 #include <cstdlib>
@@ -13,11 +15,13 @@
 #include "leveldb/db.h"
 #include "leveldb/options.h"
 #include "leveldb_cache.h"
+#include "leveldb_clock_cache.h"
 #include "memory_of_entries.hpp"
 
 namespace {
 
 constexpr std::uint64_t kKeys = 20000;
+constexpr std::uint64_t kManyKeys = 200000;
 constexpr std::uint64_t kReads = 60000;
 
 std::uint64_t Mix(std::uint64_t x) {
@@ -90,11 +94,11 @@ std::unique_ptr<leveldb::DB> Open(const std::string& path, leveldb::Cache* cache
   return std::unique_ptr<leveldb::DB>(db);
 }
 
-void Fill(const std::string& path) {
+void Fill(const std::string& path, std::uint64_t keys) {
   const std::unique_ptr<leveldb::Cache> cache(leveldb::NewLRUCache(1 << 20));
   const std::unique_ptr<leveldb::DB> db = Open(path, cache.get(), true);
-  for (std::uint64_t i = 0; i < kKeys; i++) {
-    const std::uint64_t n = i * 7919 % kKeys;
+  for (std::uint64_t i = 0; i < keys; i++) {
+    const std::uint64_t n = i * 7919 % keys;
     Check(db->Put(leveldb::WriteOptions(), KeyOf(n), ValueOf(n)));
   }
   // The first call compacts the levels that have files when it begins. The last writes may be
@@ -104,10 +108,10 @@ void Fill(const std::string& path) {
 
 // The key that a read asks for. Nine of ten are from a tenth of the keys, and one in fifty does not
 // exist.
-std::uint64_t Asked(std::uint64_t read) {
+std::uint64_t Asked(std::uint64_t read, std::uint64_t keys) {
   const std::uint64_t x = Mix(read);
-  if (x % 50 == 0) return kKeys + x % kKeys;
-  return (x >> 8) % 10 != 0 ? (x >> 16) % (kKeys / 10) * 10 : (x >> 16) % kKeys;
+  if (x % 50 == 0) return keys + x % keys;
+  return (x >> 8) % 10 != 0 ? (x >> 16) % (keys / 10) * 10 : (x >> 16) % keys;
 }
 
 struct Outcome {
@@ -118,7 +122,7 @@ struct Outcome {
 };
 
 // Random reads, with a scan of all keys halfway.
-Outcome Read(const std::string& path, leveldb::Cache* cache) {
+Outcome Read(const std::string& path, leveldb::Cache* cache, std::uint64_t keys = kKeys) {
   Counting counting(cache);
   Outcome outcome = {};
   {
@@ -130,13 +134,13 @@ Outcome Read(const std::string& path, leveldb::Cache* cache) {
         for (all->SeekToFirst(); all->Valid(); all->Next(), n++) {
           if (all->key() != KeyOf(n) || all->value() != ValueOf(n)) outcome.wrong++;
         }
-        if (n != kKeys) outcome.wrong++;
+        if (n != keys) outcome.wrong++;
       }
-      const std::uint64_t n = Asked(read);
+      const std::uint64_t n = Asked(read, keys);
       std::string value;
       const leveldb::Status status = db->Get(leveldb::ReadOptions(), KeyOf(n), &value);
       if (!status.IsNotFound()) Check(status);
-      if (status.IsNotFound() ? n < kKeys : value != ValueOf(n)) outcome.wrong++;
+      if (status.IsNotFound() ? n < keys : value != ValueOf(n)) outcome.wrong++;
       outcome.answers.push_back(status.IsNotFound() ? "none" : value);
     }
     outcome.lookups = counting.lookups;
@@ -164,21 +168,32 @@ bool IsAs(const Outcome& own, const Outcome& proved) {
          proved.hits > 0 && proved.inserts > 0;
 }
 
-// Entries with keys of this many bytes.
+// The same for the clock: equal answers, and about as many hits.
+bool IsAsGood(const Outcome& own, const Outcome& clock) {
+  return own.answers == clock.answers && own.wrong == 0 && clock.wrong == 0 &&
+         clock.lookups > 0 && clock.inserts > 0 && clock.hits * 10 > own.hits * 9;
+}
+
+template <class Cache>
+std::unique_ptr<Cache> Make(const lru::BlockCacheOptions& options) {
+  return std::unique_ptr<Cache>(Cache::New(options));
+}
+
+// An entry with a key of this many bytes.
+template <std::size_t kLength>
+void Insert(leveldb::Cache* cache, std::uint64_t n) {
+  char key[kLength] = {};
+  std::memcpy(key, &n, sizeof n);
+  cache->Release(cache->Insert(leveldb::Slice(key, kLength), nullptr, MemoryOfEntries::kCharge,
+                               nullptr));
+}
+
+std::size_t UsageOf(leveldb::Cache* cache) { return cache->TotalCharge(); }
+
 template <class Cache, std::size_t kLength>
 bool IsSmall(const char* name, std::size_t most) {
-  return TakesLittleMemory<lru::BlockCacheOptions>(
-      name, most,
-      [](const lru::BlockCacheOptions& options) {
-        return std::unique_ptr<Cache>(Cache::New(options));
-      },
-      [](Cache* cache, std::uint64_t n) {
-        char key[kLength] = {};
-        std::memcpy(key, &n, sizeof n);
-        cache->Release(cache->Insert(leveldb::Slice(key, kLength), nullptr,
-                                     MemoryOfEntries::kCharge, nullptr));
-      },
-      [](Cache* cache) { return cache->TotalCharge(); });
+  return TakesLittleMemory<lru::BlockCacheOptions>(name, most, Make<Cache>, Insert<kLength>,
+                                                   UsageOf);
 }
 
 }  // namespace
@@ -191,24 +206,42 @@ int main(int argc, char** argv) {
   const std::string path = argv[1];
   bool good = IsSmall<lru::LevelDBBlockCache, 16>("LevelDBBlockCache", 242);
   good &= IsSmall<lru::LevelDBCache, 20>("LevelDBCache", 306);
-  Fill(path);
+  using Clock = lru::LevelDBClockCache;
+  good &= TakesWhatItCounts<lru::BlockCacheOptions>("LevelDBClockCache", 180, 230, Make<Clock>,
+                                                    Insert<16>, UsageOf);
+  Fill(path, kKeys);
   std::string hits;
   for (const std::size_t kibibytes : {256u, 1024u, 8192u}) {
     const std::size_t capacity = kibibytes << 10;
     const Outcome own = Read(path, leveldb::NewLRUCache(capacity));
     const Outcome blocks = Read(path, lru::NewLevelDBBlockCache(capacity));
     const Outcome any = Read(path, lru::NewLevelDBCache(capacity));
-    if (!IsAs(own, blocks) || !IsAs(own, any)) {
+    const Outcome clock = Read(path, lru::NewLevelDBClockCache(capacity));
+    if (!IsAs(own, blocks) || !IsAs(own, any) || !IsAsGood(own, clock)) {
       good = false;
-      std::printf("%zu KiB: the answers of LevelDBBlockCache are %s, of LevelDBCache %s\n",
-                  kibibytes, own.answers == blocks.answers ? "equal" : "not equal",
-                  own.answers == any.answers ? "equal" : "not equal");
+      const auto equal = [&](const Outcome& other) {
+        return own.answers == other.answers ? "equal" : "not equal";
+      };
+      std::printf(
+          "%zu KiB: the answers of LevelDBBlockCache are %s, of LevelDBCache %s, of "
+          "LevelDBClockCache %s\n",
+          kibibytes, equal(blocks), equal(any), equal(clock));
       Print("LevelDB's own:", own);
       Print("LevelDBBlockCache:", blocks);
       Print("LevelDBCache:", any);
+      Print("LevelDBClockCache:", clock);
     }
     if (!hits.empty()) hits += ", ";
     hits += std::to_string(own.hits) + " at " + std::to_string(kibibytes) + " KiB";
+  }
+  Fill(path + "/many", kManyKeys);
+  const Outcome own = Read(path + "/many", leveldb::NewLRUCache(4 << 20), kManyKeys);
+  const Outcome clock = Read(path + "/many", lru::NewLevelDBClockCache(4 << 20), kManyKeys);
+  if (!IsAsGood(own, clock)) {
+    good = false;
+    std::printf("%llu keys: LevelDBClockCache is not as LevelDB's own\n", Number(kManyKeys));
+    Print("LevelDB's own:", own);
+    Print("LevelDBClockCache:", clock);
   }
   std::printf("leveldb: %llu keys, %llu reads and a scan; hits %s: %s\n", Number(kKeys),
               Number(kReads), hits.c_str(), good ? "equal to LevelDB's own cache" : "NOT EQUAL");

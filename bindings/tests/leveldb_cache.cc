@@ -1,8 +1,10 @@
-// Tests lru::LevelDBCache: what it has in common with LevelDB's own cache, on which these tests run
-// too; where it differs, as its header says; and threads, with each object deleted exactly once.
+// Tests lru::LevelDBCache, LevelDBBlockCache and LevelDBClockCache: what they have in common with
+// LevelDB's own cache, on which these tests run too; where they differ, as their headers say; and
+// threads, with each object deleted exactly once.
 #include "leveldb_cache.h"
 
 #include <algorithm>
+#include <atomic>
 #include <cstddef>
 #include <cstdint>
 #include <cstdio>
@@ -16,6 +18,7 @@
 #include "check.hpp"
 #include "deleted_once.hpp"
 #include "leveldb/cache.h"
+#include "leveldb_clock_cache.h"
 
 namespace {
 
@@ -82,6 +85,9 @@ Tested Own(std::size_t capacity) { return Tested(leveldb::NewLRUCache(capacity),
 Tested Any(std::size_t capacity) { return Tested(lru::NewLevelDBCache(capacity, 16), false); }
 Tested Blocks(std::size_t capacity) {
   return Tested(lru::NewLevelDBBlockCache(capacity, 16), true);
+}
+Tested Clock(std::size_t capacity) {
+  return Tested(lru::NewLevelDBClockCache(capacity, 16), true);
 }
 
 // Tests that LevelDB's own cache passes too.
@@ -150,7 +156,7 @@ void ReplacesWhatIsHeld(NewCache new_cache) {
   CHECK(cache.Deleted().empty() && cache.Get("a") == "2");
 }
 
-// Tests for this cache only.
+// Tests for these caches only.
 
 void ChargesWhatIsHeld(NewCache new_cache) {
   const Tested cache = new_cache(1000);
@@ -192,6 +198,10 @@ void EvictsAtReleases(NewCache new_cache) {
   CHECK(cache.Get("a") == "1" && cache->TotalCharge() == 100);
   cache->Release(large);
   CHECK(cache.Deleted() == "a=1 " && cache->TotalCharge() == 0);
+}
+
+void CountsACharge0As1(NewCache new_cache) {
+  const Tested cache = new_cache(16);
   cache.Put("b", "2", 0);
   CHECK(cache->TotalCharge() == 1);
 }
@@ -227,12 +237,18 @@ void DeletersMayCall(NewCache new_cache) {
 
 // A cache of blocks returns entries of other keys, and does not cache them.
 void CachesBlocksOnly() {
-  const Tested cache(lru::NewLevelDBBlockCache(1000), false);
-  Handle* handle = cache.Insert("a", "1");
-  CHECK(cache.ValueOf(handle) == "1" && cache.Get("a") == "none" && cache->TotalCharge() == 0);
-  cache.Erase("a");
-  cache->Release(handle);
-  CHECK(cache.Deleted() == "a=1 ");
+  for (leveldb::Cache* blocks :
+       {lru::NewLevelDBBlockCache(1000), lru::NewLevelDBClockCache(1000)}) {
+    const Tested cache(blocks, false);
+    for (const std::string name : {"", "a", "seventeen letters"}) {
+      Handle* handle = cache.Insert(name, "1");
+      CHECK(cache.ValueOf(handle) == "1" && cache.Get(name) == "none");
+      CHECK(cache->TotalCharge() == 0);
+      cache.Erase(name);
+      cache->Release(handle);
+      CHECK(cache.Deleted() == name + "=1 ");
+    }
+  }
 }
 
 // The number of blocks, of 30 that were put in, that are found again.
@@ -253,6 +269,16 @@ void KeepsFewBlocks() {
   CHECK(Kept(blocks(16 << 10)) == 3 && Kept(blocks(64 << 10)) >= 3);
   const Tested any(lru::NewLevelDBCache(9000), false);
   CHECK(Kept(any) == 2);
+  CHECK(Kept(Tested(lru::NewLevelDBClockCache(9000), true)) == 2);
+  CHECK(Kept(Tested(lru::NewLevelDBClockCache(9000, 16), true)) == 0);
+  CHECK(Kept(Tested(lru::NewLevelDBClockCache(9000, 0), true)) == 2);
+  CHECK(Kept(Tested(lru::NewLevelDBClockCache(9000, 1000), true)) == 0);
+  for (const std::size_t capacity : {std::size_t{0}, std::size_t{100} << 10, SIZE_MAX}) {
+    CHECK(lru::LevelDBClockCache::ShardsFor(capacity) ==
+          lru::LevelDBBlockCache::ShardsFor(capacity));
+    CHECK(lru::LevelDBClockCache::ShardsFor(capacity, 64 << 10) ==
+          lru::LevelDBBlockCache::ShardsFor(capacity, 64 << 10));
+  }
   // Numbers of shards that are not possible.
   CHECK(Kept(blocks(9000, 0)) == 2 && Kept(blocks(9000, 1000)) == 0);
   using Cache = lru::LevelDBBlockCache;
@@ -293,6 +319,16 @@ void ChargesItsMemory() {
   Tested::Deleted();
   for (const char* name : {"a", "b", "c"}) two.Put(name, "2", 5);
   CHECK(two.Deleted() == "a=2 " && two->TotalCharge() == options.capacity);
+  // The same of the clock, which may evict another one.
+  const Tested clock(lru::NewLevelDBClockCache(options), true);
+  clock.Put("a", "3", 5);
+  const std::size_t of_clock = clock->TotalCharge();
+  CHECK(of_clock > 205 && of_clock < 305);
+  for (const char* name : {"b", "c", "d"}) clock.Put(name, "3", 5);
+  CHECK(clock->TotalCharge() == options.capacity / of_clock * of_clock);
+  Handle* of_most = clock.Insert("b", "4", SIZE_MAX);
+  CHECK(clock.Get("b") == "none");
+  clock->Release(of_most);
 }
 
 // The typical charge chooses the number of shards, and there may be no memory for the tables.
@@ -312,6 +348,19 @@ void ExpectsEntries() {
   CHECK(large.Get("a") == "1");
 }
 
+// The last Release of an entry, in another thread and in one that has no readers yet.
+void ReleasesElsewhere() {
+  const Tested cache = Clock(1000);
+  std::vector<Handle*> handles;
+  for (int n = 0; n < 50; n++) handles.push_back(cache.Insert(std::to_string(n), "1"));
+  for (int n = 0; n < 50; n += 2) cache.Erase(std::to_string(n));
+  std::thread([&] {
+    for (Handle* handle : handles) cache->Release(handle);
+  }).join();
+  const std::string deleted = Tested::Deleted();
+  CHECK(std::count(deleted.begin(), deleted.end(), '=') == 25 && cache->TotalCharge() == 25);
+}
+
 void Common(NewCache new_cache) {
   for (const auto test :
        {HitsAndMisses, EvictsByLastRelease, ErasesWhatIsHeld, ReplacesWhatIsHeld}) {
@@ -321,8 +370,15 @@ void Common(NewCache new_cache) {
 }
 
 void Differences(NewCache new_cache) {
-  for (const auto test : {ChargesWhatIsHeld, FindsWhatIsHeldAtCapacity0, ReplacesWhereItIsRefused,
-                          EvictsAtReleases, DeletesWhatIsLeft, DeletersMayCall}) {
+  for (const auto test : {ChargesWhatIsHeld, ReplacesWhereItIsRefused, CountsACharge0As1,
+                          DeletesWhatIsLeft, DeletersMayCall}) {
+    test(new_cache);
+    Tested::Deleted();
+  }
+}
+
+void Releases(NewCache new_cache) {
+  for (const auto test : {FindsWhatIsHeldAtCapacity0, EvictsAtReleases}) {
     test(new_cache);
     Tested::Deleted();
   }
@@ -424,6 +480,9 @@ constexpr int kCalls = 20000;
 
 constexpr auto DeleteObject = DeleteOnce<Slice>;
 
+// Handles that one thread has passed and another one may take.
+std::atomic<Handle*> passed[4];
+
 void Calls(const Tested& cache, std::uint64_t seed) {
   std::uint64_t random = seed * 0x9e3779b97f4a7c15u;
   Handle* held[4] = {};
@@ -433,8 +492,12 @@ void Calls(const Tested& cache, std::uint64_t seed) {
     const std::uint64_t words[2] = {n, n};
     const Slice key(reinterpret_cast<const char*>(words), sizeof words);
     Handle*& slot = held[(random >> 41) % 4];
-    if (slot != nullptr) cache->Release(std::exchange(slot, nullptr));
     const std::uint64_t kind = (random >> 44) % 64;
+    if (kind >= 56) {
+      slot = passed[random % 4].exchange(slot);
+      if (slot != nullptr && !static_cast<const Object*>(cache->Value(slot))->there) wrong++;
+    }
+    if (slot != nullptr) cache->Release(std::exchange(slot, nullptr));
     if (kind < 4) {
       cache->Erase(key);
     } else if (kind == 4) {
@@ -460,6 +523,9 @@ void Threads(NewCache new_cache, int count) {
       threads.emplace_back(Calls, std::cref(cache), static_cast<std::uint64_t>(t));
     }
     for (std::thread& thread : threads) thread.join();
+    for (auto& handle : passed) {
+      if (Handle* const left = handle.exchange(nullptr)) cache->Release(left);
+    }
     CHECK(cache->TotalCharge() <= 64 && alive > 0);
     cache->Prune();
     CHECK(cache->TotalCharge() == 0 && alive == 0);
@@ -470,19 +536,26 @@ void Threads(NewCache new_cache, int count) {
 }  // namespace
 
 int main() {
-  Common(Own);
-  for (const NewCache new_cache : {Any, Blocks}) {
-    Common(new_cache);
+  for (const NewCache new_cache : {Own, Any, Blocks, Clock}) Common(new_cache);
+  for (const NewCache new_cache : {Any, Blocks, Clock}) {
     Differences(new_cache);
-    EqualsOwn(new_cache);
+    if (new_cache != Clock) {
+      Releases(new_cache);
+      EqualsOwn(new_cache);
+    }
+    // ThreadSanitizer does not see the atomics of the library, which order what threads do.
+#ifdef __SANITIZE_THREAD__
+    if (new_cache == Clock) continue;
+#endif
     Threads(new_cache, 4);
     Threads(new_cache, kThreads);
   }
+  ReleasesElsewhere();
   CachesBlocksOnly();
   KeepsFewBlocks();
   ChargesItsMemory();
   ExpectsEntries();
-  std::printf("leveldb_cache.h: both caches, with 1, 4 and 8 threads: %d checks failed\n",
+  std::printf("the caches for LevelDB, with 1, 4 and 8 threads: %d checks failed\n",
               failed_checks);
   return failed_checks == 0 ? 0 : 1;
 }

@@ -49,6 +49,28 @@ MemoryOfEntries MemoryOf(Make make, Insert insert) {
   return memory;
 }
 
+// Whether a cache that has no tables at first takes from `least` to `most` bytes for an entry, and
+// counts about as many on request, to a tenth. Its parameters are those of TakesLittleMemory.
+template <class Options, class Make, class Insert, class Usage>
+bool TakesWhatItCounts(const char* name, std::size_t least, std::size_t most, Make make,
+                       Insert insert, Usage usage) {
+  constexpr std::uint64_t kEntries = MemoryOfEntries::kEntries;
+  Options options;
+  options.capacity = 2 * kEntries * MemoryOfEntries::kCharge;
+  options.shards = 1;
+  const auto make_it = [&] { return make(options); };
+  const std::size_t each = MemoryOf(make_it, insert).each;
+  options.charges_metadata = true;
+  const auto cache = make_it();
+  for (std::uint64_t n = 0; n < kEntries; n++) insert(cache.get(), n);
+  const std::size_t charged = usage(cache.get()) / kEntries - MemoryOfEntries::kCharge;
+  const bool is_right = least <= each && each <= most && charged > each * 9 / 10 &&
+                        charged < each * 11 / 10 && MemoryOfTables(make_it) < 100000;
+  std::printf("%s: %zu bytes an entry (%zu when charged): %s\n", name, each, charged,
+              is_right ? "as it says" : "NOT AS IT SAYS");
+  return is_right;
+}
+
 // Whether a cache of this kind takes at most `most` bytes for an entry, makes no table larger while
 // it has as many entries as its options let expect, and counts what it takes on request.
 // `make(options)` makes a cache, and `usage(cache)` is the sum of charges in it.

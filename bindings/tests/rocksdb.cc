@@ -3,7 +3,8 @@
 //  - One thread reads 200,000 keys, with several iterators open, at three capacities and with
 //    strict limits. All answers must be equal, and the same reads refused by a strict limit.
 //    Without one, the numbers of hits, misses and insertions, the numbers and charges of blocks by
-//    role and the charge at the end must be equal too.
+//    role and the charge at the end must be equal too. The clock evicts other blocks, so that with
+//    it other reads are refused, and hits must only be about as many.
 //  - Four threads read, write, delete, iterate, compact and read snapshots of 20,000 keys at three
 //    capacities and with strict limits, and read them again once the database has been closed and
 //    opened. All answers must be right and equal, except that a strict limit may refuse reads, and
@@ -32,6 +33,7 @@
 #include "rocksdb/statistics.h"
 #include "rocksdb/table.h"
 #include "memory_of_entries.hpp"
+#include "rocksdb_clock_cache.h"
 #include "rocksdb_interface.hpp"
 
 namespace {
@@ -494,18 +496,20 @@ void Print(const char* name, const Outcome& outcome) {
 
 // Caches by what they are called.
 
-enum class Kind { kOwn, kBlocks, kAny };
+enum class Kind { kOwn, kBlocks, kAny, kClock };
 
 const char* NameOf(Kind kind) {
   return kind == Kind::kOwn      ? "RocksDB's own"
          : kind == Kind::kBlocks ? "RocksDBBlockCache"
-                                 : "RocksDBCache";
+         : kind == Kind::kAny    ? "RocksDBCache"
+                                 : "RocksDBClockCache";
 }
 
 // With one shard, as the two choose different shards for a key, and without what else differs.
 Caches WithOneShard(Kind kind, std::size_t capacity, bool is_strict) {
   if (kind == Kind::kBlocks) return {lru::NewRocksDBBlockCache(capacity, 1, is_strict), nullptr};
   if (kind == Kind::kAny) return {lru::NewRocksDBCache(capacity, 1, is_strict), nullptr};
+  if (kind == Kind::kClock) return {lru::NewRocksDBClockCache(capacity, 1, is_strict), nullptr};
   rocksdb::LRUCacheOptions options(capacity, 0, is_strict, 0.0);
   options.metadata_charge_policy = rocksdb::kDontChargeCacheMetadata;
   return {rocksdb::NewLRUCache(options), nullptr};
@@ -517,6 +521,7 @@ Caches ByDefault(Kind kind, std::size_t capacity, bool) {
   if (kind == Kind::kAny) {
     return {lru::NewRocksDBCache(capacity), lru::NewRocksDBCache(capacity / 4, 2)};
   }
+  if (kind == Kind::kClock) return {lru::NewRocksDBClockCache(capacity), nullptr};
   return {rocksdb::NewLRUCache(capacity), rocksdb::NewLRUCache(capacity / 4)};
 }
 
@@ -528,6 +533,11 @@ bool SameAnswers(const Outcome& one, const Outcome& other) {
     if (one.answers[i] != other.answers[i]) return false;
   }
   return true;
+}
+
+// Whether the clock is as RocksDB's own cache.
+bool IsAsGood(const Outcome& own, const Outcome& clock) {
+  return SameAnswers(own, clock) && clock.hits * 10 > own.hits * 9;
 }
 
 bool SameNumbers(const Outcome& one, const Outcome& other) {
@@ -551,10 +561,11 @@ void Compare(const char* what, std::initializer_list<std::size_t> capacities, bo
   for (const std::size_t capacity : capacities) {
     const Outcome own = run(caches(Kind::kOwn, capacity, is_strict), is_strict);
     bool is_good = IsGood(own) && (own.refused > 0) == is_strict;
-    for (const Kind kind : {Kind::kBlocks, Kind::kAny}) {
+    for (const Kind kind : {Kind::kBlocks, Kind::kAny, Kind::kClock}) {
       const Outcome proved = run(caches(kind, capacity, is_strict), is_strict);
       const bool is_as_own =
-          is_same(own, proved) && IsGood(proved) && (proved.refused > 0) == is_strict;
+          (kind == Kind::kClock ? IsAsGood(own, proved) : is_same(own, proved)) &&
+          IsGood(proved) && (proved.refused > 0) == is_strict;
       if (!is_as_own) {
         std::printf("%s, %zu bytes: %s is not as RocksDB's own\n", what, capacity, NameOf(kind));
         Print(NameOf(Kind::kOwn), own);
@@ -570,21 +581,25 @@ void Compare(const char* what, std::initializer_list<std::size_t> capacities, bo
   std::printf("%s: %s %s\n", what, is_strict ? "refused" : "hits", numbers.c_str());
 }
 
-// Entries with keys of 16 bytes.
+template <class OneCache>
+std::unique_ptr<Cache> Make(const lru::RocksDBCacheOptions& options) {
+  return std::unique_ptr<Cache>(OneCache::New(options));
+}
+
+// An entry with a key of 16 bytes.
+void InsertNumber(Cache* cache, std::uint64_t n) {
+  char key[16] = {};
+  std::memcpy(key, &n, sizeof n);
+  Check(Insert(cache, rocksdb::Slice(key, sizeof key), nullptr, MemoryOfEntries::kCharge,
+               NoHelper()));
+}
+
+std::size_t UsageOf(Cache* cache) { return cache->GetUsage(); }
+
 template <class OneCache>
 bool IsSmall(const char* name, std::size_t most) {
-  return TakesLittleMemory<lru::RocksDBCacheOptions>(
-      name, most,
-      [](const lru::RocksDBCacheOptions& options) {
-        return std::unique_ptr<Cache>(OneCache::New(options));
-      },
-      [](Cache* cache, std::uint64_t n) {
-        char key[16] = {};
-        std::memcpy(key, &n, sizeof n);
-        Check(Insert(cache, rocksdb::Slice(key, sizeof key), nullptr, MemoryOfEntries::kCharge,
-                     NoHelper()));
-      },
-      [](Cache* cache) { return cache->GetUsage(); });
+  return TakesLittleMemory<lru::RocksDBCacheOptions>(name, most, Make<OneCache>, InsertNumber,
+                                                     UsageOf);
 }
 
 }  // namespace
@@ -598,6 +613,9 @@ int main(int argc, char** argv) {
   const std::string work_path = path + "/work";
   all_good &= IsSmall<lru::RocksDBBlockCache>("RocksDBBlockCache", 258);
   all_good &= IsSmall<lru::RocksDBCache>("RocksDBCache", 306);
+  using Clock = lru::RocksDBClockCache;
+  all_good &= TakesWhatItCounts<lru::RocksDBCacheOptions>("RocksDBClockCache", 180, 230,
+                                                          Make<Clock>, InsertNumber, UsageOf);
   {
     const Caches caches = ByDefault(Kind::kOwn, 1 << 20, false);
     Fill(Open(OptionsFor(caches, false), path).get(), kKeysToRead);

@@ -1,15 +1,19 @@
-// Tests lru::RocksDBCache: what it has in common with RocksDB's own LRU cache, on which these tests
-// run too; where it differs, as its header says; random calls on both, number for number; requests
+// Tests lru::RocksDBCache, RocksDBBlockCache and RocksDBClockCache: what they have in common with
+// RocksDB's own LRU cache, on which these tests run too; where they differ, as their headers say;
+// random calls beside RocksDB's own, number for number, or for the clock beside a model; requests
 // for memory that are refused; and threads, with each object deleted exactly once.
 #include <algorithm>
+#include <atomic>
 #include <cstddef>
 #include <cstdint>
 #include <cstdio>
 #include <cstdlib>
 #include <cstring>
 #include <functional>
+#include <iterator>
 #include <map>
 #include <memory>
+#include <new>
 #include <string>
 #include <thread>
 #include <tuple>
@@ -18,13 +22,18 @@
 
 #include "check.hpp"
 #include "deleted_once.hpp"
+#include "rocksdb_clock_cache.h"
 #include "rocksdb_interface.hpp"
 
-// The linker directs the requests for memory of the cache to these. One of them can be refused.
+// The linker directs the requests for memory of the cache to these. One of them can be refused, or
+// all.
 namespace {
 thread_local int requests_until_refusal = 0;  // 0 if none is refused
+thread_local bool are_all_refused = false;
 
-bool IsRefused() { return requests_until_refusal > 0 && --requests_until_refusal == 0; }
+bool IsRefused() {
+  return are_all_refused || (requests_until_refusal > 0 && --requests_until_refusal == 0);
+}
 }  // namespace
 
 extern "C" {
@@ -34,6 +43,17 @@ void* __wrap_malloc(std::size_t size) { return IsRefused() ? nullptr : __real_ma
 void* __wrap_realloc(void* at, std::size_t size) {
   return IsRefused() ? nullptr : __real_realloc(at, size);
 }
+}
+
+// The shards of a clock and the readers of threads are in such memory. Not inlined, as gcc would
+// take them for mismatched.
+[[gnu::noinline]] void* operator new[](std::size_t size, std::align_val_t align,
+                                       const std::nothrow_t&) noexcept {
+  return IsRefused() ? nullptr : std::aligned_alloc(static_cast<std::size_t>(align), size);
+}
+[[gnu::noinline]] void operator delete[](void* at, std::align_val_t) noexcept { std::free(at); }
+[[gnu::noinline]] void operator delete[](void* at, std::size_t, std::align_val_t) noexcept {
+  std::free(at);
 }
 
 namespace {
@@ -77,6 +97,7 @@ class Tested {
   bool IsNew() const { return status_.ok() && !status_.IsOkOverwritten(); }
   bool IsOverwritten() const { return status_.IsOkOverwritten(); }
   bool IsRefused() const { return status_.IsMemoryLimit(); }
+  bool IsNotSupported() const { return status_.IsNotSupported(); }
 
   Handle* Lookup(const std::string& name) const { return cache_->Lookup(Key(name)); }
 
@@ -179,6 +200,9 @@ Tested Any(std::size_t capacity, bool is_strict) {
 }
 Tested Blocks(std::size_t capacity, bool is_strict) {
   return Tested(lru::NewRocksDBBlockCache(capacity, 1, is_strict), true);
+}
+Tested Clock(std::size_t capacity, bool is_strict) {
+  return Tested(lru::NewRocksDBClockCache(capacity, 1, is_strict), true);
 }
 
 // Tests that RocksDB's own cache passes too.
@@ -348,7 +372,7 @@ void IsStrict(NewCache new_cache) {
   cache->SetStrictCapacityLimit(false);
   CHECK(!cache->HasStrictCapacityLimit());
   Handle* large = cache.Insert("d", "6", 11);
-  CHECK(large != nullptr && cache.IsNew() && cache->Release(large));
+  CHECK(large != nullptr && cache.IsNew() && cache->Release(large, true));
   cache->SetStrictCapacityLimit(true);
   CHECK(cache.Insert("d", "7", 11) == nullptr && cache.IsRefused());
 }
@@ -546,15 +570,23 @@ void DeletersMayCall(NewCache new_cache) {
 
 void Common(NewCache new_cache) {
   for (const auto test :
-       {HitsAndMisses, TellsOfHandles, EvictsByLastRelease, ErasesWhatIsHeld, ReplacesWhatIsHeld,
-        Refs, ErasesWithTheLastRelease, EvictsAtReleases, FindsWhatIsHeldAtCapacity0, HasNoRoom,
-        IsStrict, ChangesItsCapacity, AppliesToAll, ForThisInterface, DeletersMayCall}) {
+       {HitsAndMisses, TellsOfHandles, ErasesWhatIsHeld, ReplacesWhatIsHeld, Refs, HasNoRoom,
+        IsStrict, AppliesToAll, ForThisInterface, DeletersMayCall}) {
     test(new_cache);
     Tested::Deleted();
   }
 }
 
-// Where the caches differ: what RocksDB's own does, and what this one does.
+// Those for which entries must leave in the exact order of their last releases.
+void InOrder(NewCache new_cache) {
+  for (const auto test : {EvictsByLastRelease, ChangesItsCapacity, ErasesWithTheLastRelease,
+                          EvictsAtReleases, FindsWhatIsHeldAtCapacity0}) {
+    test(new_cache);
+    Tested::Deleted();
+  }
+}
+
+// Where the caches differ: what RocksDB's own does, and what the others do.
 
 // Makes room for a new entry of a key without counting the old one, if that is idle.
 void ReplacesWithoutEvicting(NewCache new_cache) {
@@ -574,7 +606,7 @@ void ReplacesWithoutEvicting(NewCache new_cache) {
 }
 
 void RefusesWithoutEvicting(NewCache new_cache) {
-  const bool is_own = new_cache == Own;
+  const bool is_own = new_cache == Own || new_cache == Clock;
   const Tested cache = new_cache(10, true);
   Handle* held = cache.Insert("a", "1", 6);
   cache.Put("b", "2", 2);
@@ -604,13 +636,13 @@ void CountsACharge0As1(NewCache new_cache) {
 }
 
 void Differences(NewCache new_cache) {
-  for (const auto test : {ReplacesWithoutEvicting, RefusesWithoutEvicting, CountsACharge0As1}) {
+  for (const auto test : {RefusesWithoutEvicting, CountsACharge0As1}) {
     test(new_cache);
     Tested::Deleted();
   }
 }
 
-// Tests for this cache only.
+// Tests for these caches only.
 
 // An entry of an Insert that the library refuses is not cached, and replaces the old one all the
 // same.
@@ -637,7 +669,7 @@ void ReplacesNothingIfItOverflows(NewCache new_cache) {
   Handle* two = cache.Insert("b", "2", kHalf);
   CHECK(two != nullptr && cache.IsNew() && cache.Counts(kHalf, kHalf, 1));
   CHECK(cache.Get("b") == "none" && cache->Release(two) && cache.Deleted() == "b=2 ");
-  CHECK(cache.Get("a") == "1" && cache->Release(one) && cache.Deleted() == "a=1 ");
+  CHECK(cache.Get("a") == "1" && cache->Release(one, true) && cache.Deleted() == "a=1 ");
 }
 
 #if ROCKSDB_MAJOR > 7
@@ -751,23 +783,25 @@ void RefusesMemory(NewCache new_cache) {
       }
     }
   }
-  CHECK(refused == 4 && uncached >= 4);
+  // The clock has a place for the entry that it replaces.
+  CHECK(refused == 4 && uncached >= (new_cache == Clock ? 2 : 4));
 }
 
-// Without memory for a list of the entries, none is visited.
-void VisitsNothingWithoutMemory(NewCache new_cache) {
+// Without memory for a list of the entries, none is visited. The clock needs no list.
+void VisitsWithoutMemory(NewCache new_cache) {
   const Tested cache = new_cache(10, false);
   cache.Put("a", "1");
   cache.Put("b", "2");
-  requests_until_refusal = 1;
+  are_all_refused = true;
   const std::size_t visited = cache.Visited();
-  CHECK(visited == 0 && std::exchange(requests_until_refusal, 0) == 0);
+  are_all_refused = false;
+  CHECK(visited == (new_cache == Clock ? 2 : 0));
   CHECK(cache.All() == "a=1:1 b=2:1 ");
 }
 
-// Refuses each request for memory of New in turn.
+// Refuses each request for memory of New in turn: at least as many as three shards make.
 template <class OneCache>
-void RefusesToOpen() {
+void RefusesToOpen(int least) {
   int refused = 0;
   bool was_refused = true;
   for (int request = 1; was_refused; request++) {
@@ -777,14 +811,13 @@ void RefusesToOpen() {
     CHECK((cache == nullptr) == was_refused);
     refused += was_refused;
   }
-  // Each shard has a cache, a chain and two tables.
-  CHECK(refused >= 12);
+  CHECK(refused >= least);
 }
 
 void ForThisCache(NewCache new_cache) {
   for (const auto test :
        {ReturnsWhatItDoesNotCache, ReplacesNothingIfItOverflows, DeletesWhatIsLeft, RefusesMemory,
-        VisitsNothingWithoutMemory}) {
+        VisitsWithoutMemory}) {
     test(new_cache);
     Tested::Deleted();
   }
@@ -793,6 +826,74 @@ void ForThisCache(NewCache new_cache) {
   CreatesStandaloneBesideEachKey(new_cache);
   Tested::Deleted();
 #endif
+}
+
+// The clock refuses keys that have not 16 bytes.
+void RefusesOtherKeys() {
+  const Tested cache(lru::NewRocksDBClockCache(10, 1), false);
+  for (const char* name : {"", "a", "seventeen letters"}) {
+    CHECK(cache.Insert(name, "1") == nullptr && cache.IsNotSupported());
+    CHECK(cache.Standalone(name, "2", 1, true) == nullptr);
+    CHECK(cache.Lookup(name) == nullptr && cache.Deleted().empty());
+    cache.Erase(name);
+    // Without a handle, the value is deleted in 7.8 and left to the caller in 9.10.
+    auto* value = new Named{name, "3"};
+    CHECK(Insert(cache.get(), name, value, 1, Tested::Deleter()).IsNotSupported());
+    if (ROCKSDB_MAJOR > 7) Tested::Delete(nullptr, value);
+    CHECK(cache.Deleted() == name + std::string("=3 ") && cache.Counts(0, 0, 0));
+  }
+}
+
+// A thread takes the mutex if there is no memory for its readers, or for the table of them.
+void GoesOnWithoutReaders() {
+  const Tested cache = Clock(100, false);
+  const auto uses = [&] {
+    Handle* handle = cache.Lookup("a");
+    CHECK(handle != nullptr && cache.Lookup("e") == nullptr);
+    CHECK(cache->Ref(handle) && cache->GetPinnedUsage() == 1);
+    CHECK(!cache->Release(handle) && cache->GetPinnedUsage() == 1);
+    CHECK(cache.Visited() == 4 && cache->GetPinnedUsage() == 1);
+    CHECK(!cache->Release(handle) && cache->GetPinnedUsage() == 0);
+    for (const char* name : {"b", "c"}) {
+      handle = cache.Lookup(name);
+      cache.Erase(name);
+      CHECK(cache.Lookup(name) == nullptr && cache->Release(handle));
+    }
+    CHECK(cache->Release(cache.Lookup("d"), true) && cache.Counts(1, 0, 1));
+  };
+  const auto uses_without_memory = [&] {
+    are_all_refused = true;
+    uses();
+    are_all_refused = false;
+  };
+  for (const bool is_other_thread : {false, true}) {
+    // No Put uses the readers of a thread.
+    for (const char* name : {"a", "b", "c", "d"}) cache.Put(name, "1");
+    Tested::Deleted();
+    if (is_other_thread) {
+      std::thread(uses_without_memory).join();
+    } else {
+      uses_without_memory();
+    }
+    CHECK(cache.Deleted() == "b=1 c=1 d=1 " && cache.Get("a") == "1");
+  }
+}
+
+// The callback of ApplyToAllEntries may call the clock.
+void VisitorsMayCall() {
+  const Tested cache = Clock(100, false);
+  for (int n = 0; n < 20; n++) cache.Put("put" + std::to_string(n), "1");
+  std::size_t visited = 0;
+  cache->ApplyToAllEntries(
+      [&](const Slice& key, void* value, std::size_t charge, Helper) {
+        const auto* named = static_cast<Named*>(value);
+        CHECK(charge == 1 && named->value == "1");
+        cache->Erase(key);
+        CHECK(cache->Lookup(key) == nullptr && named->value == "1");
+        visited++;
+      },
+      {});
+  CHECK(visited == 20 && cache.Counts(0, 0, 0));
 }
 
 // A cache of blocks returns entries of other keys, and does not cache them.
@@ -858,6 +959,42 @@ void HasShards() {
   CHECK(cache->GetUsage() == 0 && cache->GetOccupancyCount() == 0);
 }
 
+// The same of the clock.
+void ClockHasShards() {
+  using OneCache = lru::RocksDBClockCache;
+  constexpr std::size_t kMiB = 1 << 20;
+  for (const std::size_t capacity : {std::size_t{0}, kMiB, 9 * kMiB, SIZE_MAX}) {
+    CHECK(OneCache::ShardsFor(capacity) == lru::RocksDBBlockCache::ShardsFor(capacity));
+    CHECK(OneCache::ShardsFor(capacity, kMiB) ==
+          lru::RocksDBBlockCache::ShardsFor(capacity, kMiB));
+  }
+  CHECK(lru::NewRocksDBClockCache(8 * kMiB)->GetPrintableOptions() ==
+        "    capacity : 8388608\n    shards : 16\n    strict_capacity_limit : 0\n"
+        "    charges_metadata : 0\n");
+  CHECK(lru::NewRocksDBClockCache(7, 0, true)->GetPrintableOptions() ==
+        "    capacity : 7\n    shards : 1\n    strict_capacity_limit : 1\n"
+        "    charges_metadata : 0\n");
+  lru::RocksDBCacheOptions options{{7, 1000}};
+  options.charges_metadata = true;
+  CHECK(lru::NewRocksDBClockCache(options)->GetPrintableOptions() ==
+        "    capacity : 7\n    shards : 64\n    strict_capacity_limit : 0\n"
+        "    charges_metadata : 1\n");
+  CHECK(std::strcmp(lru::NewRocksDBClockCache(1)->Name(), "lru::RocksDBClockCache") == 0);
+  const Tested cache(std::shared_ptr<Cache>(OneCache::New({{640, 64}, true}, lru::Seed(1))), true);
+  CHECK(cache.Insert("too large", "1", 11) == nullptr && cache.IsRefused());
+  for (int n = 0; n < 1000; n++) cache.Put(std::to_string(n), "1");
+  CHECK(cache->GetUsage() > 500 && cache->GetUsage() <= 640);
+  CHECK(cache->GetOccupancyCount() == cache->GetUsage() && cache.Visited() == cache->GetUsage());
+  // A shard has a place more than it has room for, for an entry that is added before others leave.
+  const std::size_t places = cache->GetTableAddressCount();
+  CHECK(places >= cache->GetUsage() && places <= 640 + 64);
+  cache->SetCapacity(64);
+  CHECK(cache->GetCapacity() == 64 && cache->GetUsage() == 64 && cache.Visited() == 64);
+  cache->EraseUnRefEntries();
+  CHECK(cache.Counts(0, 0, 0));
+  Tested::Deleted();
+}
+
 // An entry counts its memory too, if the cache is asked to charge it.
 template <class OneCache>
 void ChargesItsMemory() {
@@ -876,9 +1013,10 @@ void ChargesItsMemory() {
       [&](const Slice&, void*, std::size_t charge, Helper) { sum += charge; }, {});
   CHECK(sum == 5);
   // The sum does not overflow.
+  Handle* held = cache->Lookup(b);
   CHECK(Insert(cache.get(), c, nullptr, SIZE_MAX - 1, NoHelper(), &handle).ok());
   CHECK(cache->GetCharge(handle) == SIZE_MAX - 1 && cache->Lookup(c) == nullptr);
-  CHECK(cache->Release(handle));
+  CHECK(cache->Release(handle) && !cache->Release(held));
   cache->SetCapacity(each + 5);
   cache->SetStrictCapacityLimit(true);
   CHECK(cache->GetUsage() == each + 5);
@@ -916,18 +1054,19 @@ void ExpectsEntries() {
 // A deleter that SetCapacity runs may call it too. Then all shards have shares of what it set.
 void Resize(const Slice*, void* value) { static_cast<Cache*>(value)->SetCapacity(4000); }
 
+template <class OneCache>
 void DeletersMayResize() {
-  const std::unique_ptr<Cache> cache(lru::RocksDBCache::New(4000, 4));
+  const Tested cache(std::shared_ptr<Cache>(OneCache::New(4000, 4)), true);
   const Helper resize = HelperFor<Resize>();
   for (int round = 0; round < 10; round++) {
     // In some shard.
-    const std::string key = "resize" + std::to_string(round);
+    const std::string key = cache.Key("resize" + std::to_string(round));
     CHECK(Insert(cache.get(), key, cache.get(), 1, resize).ok());
     cache->SetCapacity(0);
     CHECK(cache->GetCapacity() == 4000);
     cache->EraseUnRefEntries();
     for (int n = 0; n < 100; n++) {
-      CHECK(Insert(cache.get(), std::to_string(n), nullptr, 1, NoHelper()).ok());
+      CHECK(Insert(cache.get(), cache.Key(std::to_string(n)), nullptr, 1, NoHelper()).ok());
     }
     CHECK(cache->GetUsage() == 100);
   }
@@ -1154,6 +1293,263 @@ void EqualsOwn(NewCache new_cache) {
   }
 }
 
+// Random calls on the clock beside a model, which knows the entries that there are: all but those
+// whose objects were deleted. Which entries leave to make room is the clock's choice, and no more
+// of them than needed.
+class SameAsModel {
+ public:
+  using Limit = SameAsOwn::Limit;
+
+  explicit SameAsModel(Limit limit)
+      : limit_(limit), is_strict_(limit == Limit::kStrict), cache_(Clock(kCapacity, is_strict_)) {}
+
+  void Run(std::uint64_t seed) {
+    random_ = seed;
+    for (int call = 0; call < kCalls; call++) {
+      Call();
+      std::size_t usage = 0, pinned = 0;
+      for (const auto& [value, entry] : entries_) {
+        usage += entry.charge;
+        pinned += entry.handles > 0 ? entry.charge : 0;
+      }
+      CHECK(cache_->GetUsage() == usage && cache_->GetPinnedUsage() == pinned);
+      CHECK(cache_->GetOccupancyCount() == found_.size());
+      times_[usage > cache_->GetCapacity() ? "above the capacity" : "below"]++;
+      if (failed_checks > 20) return;
+    }
+    while (!held_.empty()) Release(0, false);
+    cache_->EraseUnRefEntries();
+    Take();
+    CHECK(entries_.empty() && cache_.Counts(0, 0, 0));
+    for (const char* what : {"new", "overwritten", "no room", "hit", "miss", "erased by Release",
+                             "kept by Release", "evicted by Release", "above the capacity"}) {
+      if (times_[what] < 100) std::printf("%s: %d times\n", what, times_[what]);
+      CHECK(times_[what] >= 100);
+    }
+    CHECK((times_["refused"] >= 100) == (limit_ != Limit::kLoose));
+    CHECK((times_["standalone"] >= 100) == (ROCKSDB_MAJOR > 7));
+    const bool has_both = ROCKSDB_MAJOR > 7 && limit_ != Limit::kLoose;
+    CHECK((times_["uncharged"] >= 100) == has_both);
+    CHECK((times_["not standalone"] >= 100) == has_both);
+  }
+
+ private:
+  static constexpr int kCalls = 50000;
+  static constexpr std::size_t kCapacity = 40;
+
+  struct Entry {
+    std::string name;
+    std::size_t charge;
+    int handles;
+  };
+
+  struct Held {
+    std::string value;
+    Handle* handle;
+  };
+
+  // What a call has deleted: how many entries, the sum of their charges, and the largest.
+  struct Left {
+    std::size_t count = 0, charge = 0, largest = 0;
+  };
+
+  std::uint64_t Below(std::uint64_t end) {
+    random_ = random_ * 6364136223846793005u + 1442695040888963407u;
+    return (random_ >> 33) % end;
+  }
+
+  bool IsThere(const std::string& value) const { return entries_.count(value) != 0; }
+
+  std::string Found(const std::string& name) const {
+    const auto found = found_.find(name);
+    return found == found_.end() ? "none" : found->second;
+  }
+
+  // Removes what was deleted from the model. Nothing is deleted twice, or while it is held.
+  Left Take() {
+    Left left;
+    const std::string deleted = Tested::Deleted();
+    for (std::size_t at = 0; at < deleted.size();) {
+      const std::size_t middle = deleted.find('=', at), end = deleted.find(' ', middle);
+      const std::string name = deleted.substr(at, middle - at);
+      const std::string value = deleted.substr(middle + 1, end - middle - 1);
+      at = end + 1;
+      const auto entry = entries_.find(value);
+      CHECK(entry != entries_.end());
+      if (entry == entries_.end()) continue;
+      CHECK(entry->second.name == name && entry->second.handles == 0);
+      if (Found(name) == value) found_.erase(name);
+      left.count++;
+      left.charge += entry->second.charge;
+      left.largest = std::max(left.largest, entry->second.charge);
+      entries_.erase(entry);
+    }
+    return left;
+  }
+
+  // Whether what is idle has left until the rest fits.
+  bool HasEvicted() const {
+    const std::size_t usage = cache_->GetUsage();
+    return usage <= cache_->GetCapacity() || usage == cache_->GetPinnedUsage();
+  }
+
+  void Hold(const std::string& value, Handle* handle) {
+    CHECK(cache_.ValueOf(handle) == value);
+    CHECK(cache_->GetCharge(handle) == entries_[value].charge);
+    entries_[value].handles++;
+    held_.push_back({value, handle});
+  }
+
+  void Insert(const std::string& name, bool has_handle) {
+    const std::size_t charge = Below(50) == 0 ? 30 + Below(30) : 1 + Below(5);
+    const std::size_t capacity = cache_->GetCapacity(), usage = cache_->GetUsage();
+    const bool has_room = cache_->GetPinnedUsage() + charge <= capacity;
+    const bool is_refused = has_handle && is_strict_ && !has_room;
+    const std::string old = Found(name);
+    const bool is_old_held = old != "none" && entries_[old].handles > 0;
+    const std::size_t old_charge = old == "none" ? 0 : entries_[old].charge;
+    const std::string value = std::to_string(made_++);
+    entries_[value] = {name, charge, 0};
+    auto* object = new Named{name, value};
+    Handle* handle = nullptr;
+    const Status status =
+        ::Insert(cache_.get(), name, object, charge, Tested::Deleter(),
+                 has_handle ? &handle : nullptr, static_cast<Priority>(Below(3)));
+    CHECK(status.ok() == !is_refused && status.IsMemoryLimit() == is_refused);
+    CHECK((handle != nullptr) == (has_handle && !is_refused));
+    // As if by its deleter, so that it is among the deleted ones.
+    if (is_refused) Tested::Delete(nullptr, object);
+    Left left = Take();
+    const bool is_kept = has_handle ? !is_refused : has_room;
+    CHECK(IsThere(value) == is_kept);
+    if (!is_kept) left.count--, left.charge -= charge;
+    if (is_kept) {
+      // The old entry was replaced, unless it was among those that made room.
+      if (old == "none") CHECK(!status.IsOkOverwritten());
+      if (is_old_held) CHECK(status.IsOkOverwritten() && IsThere(old));
+      if (old != "none" && !is_old_held) CHECK(!IsThere(old));
+      if (status.IsOkOverwritten() && !is_old_held) left.count--, left.charge -= old_charge;
+      found_[name] = value;
+    } else if (is_old_held) {
+      CHECK(Found(name) == old);
+    }
+    if (handle != nullptr) Hold(value, handle);
+    CHECK(HasEvicted());
+    // No more has left than was needed.
+    if (left.count > 0) CHECK(usage - left.charge + charge + left.largest > capacity);
+    if (usage + charge <= capacity) CHECK(left.count == 0);
+    times_[is_refused                    ? "refused"
+           : status.IsOkOverwritten()    ? "overwritten"
+           : !has_handle && !has_room    ? "no room"
+                                         : "new"]++;
+  }
+
+  void Standalone(const std::string& name) {
+    const std::size_t charge = 1 + Below(20);
+    const bool allow_uncharged = Below(2) == 0;
+    const bool has_room =
+        cache_->GetPinnedUsage() + charge <= cache_->GetCapacity() || !is_strict_;
+    const std::string value = std::to_string(made_++);
+    Handle* handle = cache_.Standalone(name, value, charge, allow_uncharged);
+    CHECK((handle != nullptr) == (has_room || allow_uncharged));
+    times_[has_room ? "standalone" : allow_uncharged ? "uncharged" : "not standalone"]++;
+    Take();
+    if (handle == nullptr) return;
+    entries_[value] = {name, has_room ? charge : 0, 0};
+    Hold(value, handle);
+  }
+
+  void Lookup(const std::string& name) {
+    Handle* handle = cache_.Lookup(name);
+    CHECK((handle != nullptr) == (Found(name) != "none"));
+    times_[handle == nullptr ? "miss" : "hit"]++;
+    if (handle != nullptr) Hold(Found(name), handle);
+  }
+
+  void Release(std::size_t index, bool erases) {
+    const Held held = held_[index];
+    held_.erase(held_.begin() + static_cast<std::ptrdiff_t>(index));
+    CHECK(cache_.ValueOf(held.handle) == held.value);
+    Entry& entry = entries_[held.value];
+    entry.handles--;
+    const bool was_found = Found(entry.name) == held.value;
+    const bool is_gone = cache_->Release(held.handle, erases);
+    const std::string name = entry.name;
+    const bool is_last = entry.handles == 0;
+    Take();
+    CHECK(is_gone == !IsThere(held.value));
+    if (is_last && (erases || !was_found)) CHECK(is_gone);
+    if (!is_last) CHECK(!is_gone);
+    if (erases && was_found) found_.erase(name);
+    times_[!is_gone ? "kept by Release" : erases ? "erased by Release" : "evicted by Release"]++;
+  }
+
+  void Call() {
+    // Of 16 bytes, so that none is padded, and without what ends a name or a value.
+    const std::string name = "key-of-16-" + std::to_string(100000 + Below(60));
+    const std::uint64_t kind = Below(100);
+    if (kind == 0) {
+      cache_->EraseUnRefEntries();
+      Take();
+      CHECK(cache_->GetUsage() == cache_->GetPinnedUsage());
+    } else if (kind == 1) {
+      cache_->SetCapacity(Below(4) == 0 ? Below(2 * kCapacity) : kCapacity);
+      Take();
+      CHECK(HasEvicted());
+    } else if (kind == 2 && limit_ == Limit::kChanging) {
+      is_strict_ = !is_strict_;
+      cache_->SetStrictCapacityLimit(is_strict_);
+      CHECK(cache_->HasStrictCapacityLimit() == is_strict_);
+    } else if (kind == 3) {
+      std::string all;
+      for (const auto& [key, value] : found_) {
+        all += key + "=" + value + ":" + std::to_string(entries_[value].charge) + " ";
+      }
+      CHECK(cache_.All() == all);
+    } else if (kind < 10) {
+      const std::string old = Found(name);
+      const bool is_held = old != "none" && entries_[old].handles > 0;
+      cache_.Erase(name);
+      Take();
+      CHECK(IsThere(old) == is_held);
+      found_.erase(name);
+    } else if (kind < 25) {
+      Insert(name, true);
+    } else if (kind < 40) {
+      Insert(name, false);
+    } else if (kind < 60) {
+      Lookup(name);
+    } else if (kind < 62 && ROCKSDB_MAJOR > 7) {
+      Standalone(name);
+    } else if (kind < 66 && !held_.empty()) {
+      const Held held = held_[Below(held_.size())];
+      CHECK(cache_->Ref(held.handle));
+      Hold(held.value, held.handle);
+    } else if (!held_.empty() && Below(20) < held_.size()) {
+      Release(Below(held_.size()), Below(3) == 0);
+    }
+  }
+
+  Limit limit_;
+  bool is_strict_;
+  Tested cache_;
+  std::map<std::string, Entry> entries_;      // by their values, which differ
+  std::map<std::string, std::string> found_;  // the value that each key finds
+  std::vector<Held> held_;
+  std::map<std::string, int> times_;
+  std::uint64_t random_ = 0;
+  int made_ = 0;
+};
+
+void EqualsModel() {
+  std::uint64_t seed = 1;
+  for (const auto limit :
+       {SameAsModel::Limit::kLoose, SameAsModel::Limit::kStrict, SameAsModel::Limit::kChanging}) {
+    SameAsModel(limit).Run(seed++);
+    Tested::Deleted();
+  }
+}
+
 // Threads: each object is deleted once, by its own deleter, and not while it is pinned.
 
 constexpr int kThreads = 8;
@@ -1164,6 +1560,9 @@ void DeleteObject(const Slice* key, void* value) {
   const std::uint64_t n = static_cast<Object*>(value)->key;
   DeleteOnce(key != nullptr ? *key : Slice(reinterpret_cast<const char*>(&n), sizeof n), value);
 }
+
+// Handles that one thread has passed and another one may take.
+std::atomic<Handle*> passed[4];
 
 void Calls(Cache* cache, std::uint64_t seed) {
   std::uint64_t random = seed * 0x9e3779b97f4a7c15u;
@@ -1179,6 +1578,13 @@ void Calls(Cache* cache, std::uint64_t seed) {
       const auto* object = static_cast<const Object*>(cache->Value(slot));
       if (!cache->Ref(slot) || !object->there || object->key != of) wrong++;
       if (cache->Release(slot, kind < 4)) wrong++;
+    }
+    if (kind >= 56) {
+      slot = passed[random % 4].exchange(slot);
+      if (slot == nullptr) continue;
+      const auto* object = static_cast<const Object*>(cache->Value(slot));
+      if (!object->there) wrong++;
+      of = object->key;
     }
     if (slot != nullptr) cache->Release(std::exchange(slot, nullptr), kind % 8 == 0);
     const std::size_t charge = 1 + (random >> 50) % 3;
@@ -1199,7 +1605,8 @@ void Calls(Cache* cache, std::uint64_t seed) {
           },
           {});
       if (cache->GetUsage() < cache->GetCapacity() / 1000) wrong++;
-      if (cache->GetPinnedUsage() > 3 * 4 * kThreads) wrong++;
+      // Each thread may be visiting an entry, too.
+      if (cache->GetPinnedUsage() > 3 * (4 * kThreads + kThreads + std::size(passed))) wrong++;
     } else if (kind < 12) {
       const Helper helper = HelperFor<DeleteObject>();
       if (!Insert(cache, key, new Object(n), charge, helper).ok()) wrong++;
@@ -1231,6 +1638,9 @@ void Threads(std::shared_ptr<Cache> cache, int count) {
     threads.emplace_back(Calls, cache.get(), static_cast<std::uint64_t>(t));
   }
   for (std::thread& thread : threads) thread.join();
+  for (auto& handle : passed) {
+    if (Handle* const left = handle.exchange(nullptr)) cache->Release(left);
+  }
   CHECK(cache->GetUsage() <= kThreadsCapacity + 64 && cache->GetPinnedUsage() == 0 && alive > 0);
   CHECK(static_cast<std::size_t>(alive) == cache->GetOccupancyCount());
   cache->EraseUnRefEntries();
@@ -1242,29 +1652,44 @@ void Threads(std::shared_ptr<Cache> cache, int count) {
 }  // namespace
 
 int main() {
-  Common(Own);
-  Differences(Own);
-  for (const NewCache new_cache : {Any, Blocks}) {
+  for (const NewCache new_cache : {Own, Any, Blocks, Clock}) {
     Common(new_cache);
     Differences(new_cache);
-    ForThisCache(new_cache);
-    EqualsOwn(new_cache);
+    if (new_cache == Clock) continue;
+    InOrder(new_cache);
+    ReplacesWithoutEvicting(new_cache);
+    Tested::Deleted();
   }
+  for (const NewCache new_cache : {Any, Blocks, Clock}) ForThisCache(new_cache);
+  for (const NewCache new_cache : {Any, Blocks}) EqualsOwn(new_cache);
+  EqualsModel();
   for (const int count : {4, kThreads}) {
     for (const std::size_t shards : {1u, 4u, 64u}) {
       Threads(lru::NewRocksDBCache(kThreadsCapacity, shards), count);
       Threads(lru::NewRocksDBBlockCache(kThreadsCapacity, shards), count);
+      // ThreadSanitizer does not see the atomics of the library, which order what threads do.
+#ifndef __SANITIZE_THREAD__
+      Threads(lru::NewRocksDBClockCache(kThreadsCapacity, shards), count);
+#endif
     }
   }
-  RefusesToOpen<lru::RocksDBCache>();
-  RefusesToOpen<lru::RocksDBBlockCache>();
+  // Each shard has a cache, a chain and two tables, or a clock and a reader.
+  RefusesToOpen<lru::RocksDBCache>(12);
+  RefusesToOpen<lru::RocksDBBlockCache>(12);
+  RefusesToOpen<lru::RocksDBClockCache>(6);
   CachesBlocksOnly();
   HasShards();
+  ClockHasShards();
   ChargesItsMemory<lru::RocksDBCache>();
   ChargesItsMemory<lru::RocksDBBlockCache>();
+  ChargesItsMemory<lru::RocksDBClockCache>();
+  RefusesOtherKeys();
+  GoesOnWithoutReaders();
+  VisitorsMayCall();
   ExpectsEntries();
-  DeletersMayResize();
-  std::printf("rocksdb_cache.h: both caches, with 1, 4 and 8 threads: %d checks failed\n",
+  DeletersMayResize<lru::RocksDBCache>();
+  DeletersMayResize<lru::RocksDBClockCache>();
+  std::printf("the caches for RocksDB, with 1, 4 and 8 threads: %d checks failed\n",
               failed_checks);
   return failed_checks == 0 ? 0 : 1;
 }

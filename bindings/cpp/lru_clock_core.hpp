@@ -1,0 +1,373 @@
+// The clock of lru.h as shards that have a mutex each, and readers of them for each thread.
+// lru_clock.hpp and lru_clock_block_cache.hpp are built on them. Nothing here throws, and the
+// header compiles with -fno-exceptions and -fno-rtti.
+#ifndef CONCURRENT_LRU_CLOCK_CORE_HPP
+#define CONCURRENT_LRU_CLOCK_CORE_HPP
+
+#include <pthread.h>
+
+#include <atomic>
+#include <cassert>
+#include <cstddef>
+#include <cstdint>
+#include <memory>
+#include <mutex>
+#include <new>
+#include <utility>
+
+#include "lru_core.hpp"
+
+namespace lru {
+namespace detail {
+
+// A thread that has a number, in the list of them. Its memory is the thread's own.
+struct NumberedThread {
+  static constexpr std::uint32_t kNone = UINT32_MAX;
+
+  std::uint32_t number = kNone;
+  bool is_ending = false;
+  NumberedThread* next = nullptr;
+};
+
+// Numbers the threads of the process that use a clock: each has the least number that no other
+// thread has, until it ends. Nothing here throws. It is visible, so that all shared libraries of a
+// program give the same numbers.
+class [[gnu::visibility("default")]] ThreadNumbers {
+ public:
+  // The number of this thread, or kNone if it has none: there is no memory for it, or the thread
+  // is about to end.
+  static std::uint32_t mine() noexcept {
+    return mine_.number != NumberedThread::kNone ? mine_.number : take();
+  }
+
+ private:
+  // What tells that a thread ends. A thread_local object would end the program if there is no
+  // memory to register its destructor. It is closed when the program ends, or the shared library
+  // that has this code is unloaded.
+  struct Key {
+    Key() noexcept : is_open(pthread_key_create(&key, give_back) == 0) {}
+    ~Key() {
+      if (is_open.exchange(false)) pthread_key_delete(key);
+    }
+
+    pthread_key_t key = 0;
+    std::atomic<bool> is_open;
+  };
+
+  [[gnu::cold, gnu::noinline]] static std::uint32_t take() noexcept {
+    static Key key;
+    NumberedThread* const mine = &mine_;
+    if (mine->is_ending || !key.is_open || pthread_setspecific(key.key, mine) != 0) {
+      return NumberedThread::kNone;
+    }
+    const std::lock_guard<std::mutex> lock(mutex_);
+    std::uint32_t number = 0;
+    NumberedThread** place = &first_;
+    for (; *place != nullptr && (*place)->number == number; number++) place = &(*place)->next;
+    mine->number = number;
+    mine->next = std::exchange(*place, mine);
+    return number;
+  }
+
+  static void give_back(void* at) noexcept {
+    auto* const mine = static_cast<NumberedThread*>(at);
+    const std::lock_guard<std::mutex> lock(mutex_);
+    NumberedThread** place = &first_;
+    while (*place != mine) place = &(*place)->next;
+    *place = mine->next;
+    mine->number = NumberedThread::kNone;
+    mine->is_ending = true;
+  }
+
+  static inline thread_local NumberedThread mine_;
+  static inline std::mutex mutex_;
+  static inline NumberedThread* first_ = nullptr;  // in the order of their numbers
+};
+
+// The readers of a cache: each thread has a lane of them, with a reader of each shard, which only
+// that thread uses. A reader is opened by the first call of its thread on its shard. The lanes are
+// in chunks, each for twice as many threads as the one before, which never move.
+class Lanes {
+ public:
+  explicit Lanes(std::size_t shards) noexcept : lines_((shards + kInLine - 1) / kInLine) {}
+
+  ~Lanes() {
+    for (std::size_t number = 0; number < kChunks; number++) {
+      const std::unique_ptr<Line[]> chunk(chunks_[number].load(std::memory_order_acquire));
+      if (chunk == nullptr) continue;
+      for (std::size_t line = 0; line < count_of(number); line++) {
+        for (lru_reader& reader : chunk[line].readers) lru_reader_free(&reader);
+      }
+    }
+  }
+
+  Lanes(const Lanes&) = delete;
+  Lanes& operator=(const Lanes&) = delete;
+
+  // This thread's reader of a shard, which need not be open. Null if the thread has no number, or
+  // there is no memory for its lane.
+  lru_reader* mine(std::size_t shard) noexcept {
+    const std::uint64_t number = ThreadNumbers::mine() + kFirst;
+    if (number >= kFirst << kChunks) return nullptr;
+    const std::size_t chunk = static_cast<std::size_t>(63 - __builtin_clzll(number / kFirst));
+    Line* lines = chunks_[chunk].load(std::memory_order_acquire);
+    if (lines == nullptr && (lines = add(chunk)) == nullptr) return nullptr;
+    const std::size_t lane = static_cast<std::size_t>(number - (kFirst << chunk));
+    return &lines[lane * lines_ + shard / kInLine].readers[shard % kInLine];
+  }
+
+ private:
+  static constexpr std::size_t kInLine = 4;
+
+  // No two lanes share a line of the processor's cache.
+  struct alignas(64) Line {
+    lru_reader readers[kInLine];
+  };
+  static_assert(sizeof(Line) == 64, "lru: a line of readers is a line of the processor's cache");
+
+  // How many lanes the first chunk has, and how many chunks there are: enough for twice as many
+  // threads as Linux can have.
+  static constexpr std::uint64_t kFirst = 8;
+  static constexpr std::size_t kChunks = 20;
+
+  std::size_t count_of(std::size_t chunk) const noexcept {
+    return static_cast<std::size_t>(kFirst << chunk) * lines_;
+  }
+
+  [[gnu::cold, gnu::noinline]] Line* add(std::size_t number) noexcept {
+    std::unique_ptr<Line[]> chunk(new (std::nothrow) Line[count_of(number)]());
+    Line* other = nullptr;
+    if (chunk == nullptr || !chunks_[number].compare_exchange_strong(other, chunk.get())) {
+      return other;
+    }
+    return chunk.release();
+  }
+
+  const std::size_t lines_;  // of a lane
+  std::atomic<Line*> chunks_[kChunks] = {};
+};
+
+// A key, the hash by which the clock of a shard finds it, and the shard.
+struct ClockKey {
+  Words words;
+  std::uint64_t hash;
+  std::uint32_t shard;
+};
+
+// A shard: a clock with its mutex. The value that the library stores is the address of a node.
+// Shards do not share cache lines, so that threads at different shards do not slow each other, and
+// a hit reads nothing of them.
+//
+// The caller of each member holds the mutex. `Evicted` is a list with `add(Node*)`, which takes the
+// nodes that leave.
+template <class NodeOfCache>
+struct alignas(64) ClockShard {
+  using Node = NodeOfCache;
+
+  ClockShard() = default;
+  ~ClockShard() {
+    lru_reader_free(&reader);
+    lru_clock_free(&clock);
+  }
+
+  ClockShard(const ClockShard&) = delete;
+  ClockShard& operator=(const ClockShard&) = delete;
+
+  // Opens a thread's reader, unless it is null. If there is no memory for it, the thread tries
+  // again with its next call.
+  void open_reader(lru_reader* mine) noexcept {
+    if (mine != nullptr) lru_reader_new(&clock, mine);
+  }
+
+  // Pins the value of a key, and misses none.
+  lru_found find(const ClockKey& key) noexcept {
+    return lru_clock_find(&clock, key.hash, key.words.first, key.words.second);
+  }
+
+  // Pins a new value of a key, or the one that it has: LRU_HIT.
+  lru_found add(const ClockKey& key, std::uint64_t charge, Node* node) noexcept {
+    return lru_clock_add(&clock, key.hash, key.words.first, key.words.second, charge,
+                         word_of(node));
+  }
+
+  // Evicts until there is room for another charge, or all that is left is pinned.
+  template <class Evicted>
+  void make_room(std::uint64_t charge, Evicted* evicted) noexcept {
+    lru_left left;
+    while (lru_clock_make_room(&clock, charge, &left) == LRU_GONE) take(left, evicted);
+  }
+
+  // Evicts all that is not pinned.
+  template <class Evicted>
+  void prune(Evicted* evicted) noexcept {
+    lru_left left;
+    std::uint32_t next = 0;
+    while (lru_clock_prune(&clock, &next, &left) == LRU_GONE) take(left, evicted);
+  }
+
+  template <class Evicted>
+  void set_capacity(std::uint64_t capacity, Evicted* evicted) noexcept {
+    lru_clock_set_capacity(&clock, capacity);
+    make_room(0, evicted);
+  }
+
+  // Takes the value of a key away, and the making of one. The value leaves at once unless it is
+  // pinned.
+  template <class Evicted>
+  void erase(const ClockKey& key, Evicted* evicted) noexcept {
+    lru_left left;
+    if (lru_clock_erase(&clock, key.hash, key.words.first, key.words.second, &left) == LRU_GONE) {
+      take(left, evicted);
+    }
+  }
+
+  // The same, of a value that the caller has pinned at this place. Gives that pin back.
+  template <class Evicted>
+  void detach(const ClockKey& key, std::uint32_t place, Evicted* evicted) noexcept {
+    erase(key, evicted);
+    unpin(place, evicted);
+  }
+
+  // Takes out the value at a place if its key was taken away and it is not pinned.
+  template <class Evicted>
+  void collect(std::uint32_t place, Evicted* evicted) noexcept {
+    lru_left left;
+    if (lru_clock_collect(&clock, place, &left) == LRU_GONE) take(left, evicted);
+  }
+
+  template <class Evicted>
+  void unpin(std::uint32_t place, Evicted* evicted) noexcept {
+    if (lru_reader_unpin(&reader, place) == LRU_LAST) collect(place, evicted);
+  }
+
+  // Ends what an unpin without the mutex has begun, which answered with this code: gives the pin
+  // back, if the thread's reader was not open, and takes out the value if that was its last pin.
+  // Returns what that unpin answered.
+  template <class Evicted>
+  lru_code end_unpin(std::uint32_t place, lru_reader* mine, lru_code code,
+                     Evicted* evicted) noexcept {
+    if (code == LRU_CLOSED) {
+      open_reader(mine);
+      code = lru_reader_unpin(&reader, place);
+    }
+    assert(code == LRU_DONE || code == LRU_LAST);
+    if (code == LRU_LAST) collect(place, evicted);
+    return code;
+  }
+
+  std::uint64_t total() noexcept { return lru_clock_total(&clock).value; }
+  std::uint64_t pinned_charge() noexcept { return lru_clock_pinned_charge(&clock).value; }
+  std::uint64_t capacity() noexcept { return lru_clock_capacity(&clock).value; }
+  std::uint64_t len() noexcept { return lru_clock_len(&clock).value; }
+  std::uint32_t places() noexcept {
+    return static_cast<std::uint32_t>(lru_clock_places(&clock).value);
+  }
+
+  Mutex mutex;
+  lru_clock clock = {};
+  lru_reader reader = {};  // for any thread that holds the mutex
+
+ private:
+  template <class Evicted>
+  static void take(const lru_left& left, Evicted* evicted) noexcept {
+    evicted->add(node_of<Node>(left.value));
+  }
+};
+
+// The shards of a cache, and the readers of all threads. A `Shard` is a ClockShard, or derived from
+// one. The members below that take a thread's reader accept null as well, which stands for one that
+// is not open.
+template <class Shard>
+class ClockShards {
+ public:
+  // Neither the number of shards nor that of a shard is above 2^32 - 1.
+  ClockShards(std::size_t count, Seed seed) noexcept : seed_(seed), count_(count), lanes_(count) {}
+
+  // False if there is no memory. Comes before all other members, and only once.
+  bool open(std::uint64_t capacity) noexcept {
+    shards_.reset(new (std::nothrow) Shard[count_]);
+    if (shards_ == nullptr) return false;
+    for (Shard& shard : *this) {
+      if (lru_clock_new(share(capacity, count_), &shard.clock) != LRU_DONE ||
+          lru_reader_new(&shard.clock, &shard.reader) != LRU_DONE) {
+        return false;
+      }
+    }
+    return true;
+  }
+
+  std::size_t count() const noexcept { return count_; }
+  Shard& operator[](std::size_t number) const noexcept { return shards_[number]; }
+  Shard* begin() const noexcept { return shards_.get(); }
+  Shard* end() const noexcept { return shards_ == nullptr ? nullptr : shards_.get() + count_; }
+
+  // The lower half of the hash chooses the shard, and a clock uses the upper half. Both depend on
+  // all bits of the key.
+  ClockKey hash(Words words) const noexcept {
+    const std::uint64_t mixed = lru_hash_multiply(words.first ^ seed_.number, 0x9e3779b97f4a7c05u);
+    const std::uint64_t hash = lru_hash_multiply(mixed ^ words.second, 0xbf58476d1ce4e5b9u);
+    const std::uint64_t shard = std::uint64_t{static_cast<std::uint32_t>(hash)} * count_ >> 32;
+    return {words, hash, static_cast<std::uint32_t>(shard)};
+  }
+
+  // Without the mutex.
+
+  // This thread's reader of a shard.
+  lru_reader* mine(std::uint32_t shard) const noexcept { return lanes_.mine(shard); }
+
+  // Pins the value of a key. May miss one while the clock is written.
+  static lru_found pin(lru_reader* mine, const ClockKey& key) noexcept {
+    if (mine == nullptr) return {0, LRU_CLOSED, 0};
+    return lru_reader_pin(mine, key.hash, key.words.first, key.words.second);
+  }
+  static lru_code unpin(lru_reader* mine, std::uint32_t place) noexcept {
+    if (mine == nullptr) return LRU_CLOSED;
+    return lru_reader_unpin(mine, place);
+  }
+
+  // These take the mutex if the reader is not open, and then open it.
+
+  // Pins the value of a key, and misses none.
+  [[gnu::cold, gnu::noinline]] lru_found find_locked(const ClockKey& key,
+                                                     lru_reader* mine) const noexcept {
+    Shard& shard = shards_[key.shard];
+    const std::lock_guard<Mutex> lock(shard.mutex);
+    shard.open_reader(mine);
+    return shard.find(key);
+  }
+
+  // Pins whatever value is at a place.
+  lru_found pin_at(std::uint32_t number, std::uint32_t place) const noexcept {
+    lru_reader* const mine = lanes_.mine(number);
+    lru_found found = {0, LRU_CLOSED, 0};
+    if (mine != nullptr) found = lru_reader_pin_at(mine, place);
+    if (found.code != LRU_CLOSED) return found;
+    Shard& shard = shards_[number];
+    const std::lock_guard<Mutex> lock(shard.mutex);
+    shard.open_reader(mine);
+    return lru_reader_pin_at(&shard.reader, place);
+  }
+
+  // The sum of a number of each shard, or 2^64 - 1 if it is more. The shards are read one after
+  // another, each with its mutex held.
+  template <class Number>
+  std::uint64_t sum(Number number) const {
+    std::uint64_t sum = 0;
+    for (Shard& shard : *this) {
+      const std::lock_guard<Mutex> lock(shard.mutex);
+      sum = saturating_add(sum, number(shard));
+    }
+    return sum;
+  }
+
+ private:
+  const Seed seed_;
+  const std::size_t count_;
+  std::unique_ptr<Shard[]> shards_;
+  mutable Lanes lanes_;
+};
+
+}  // namespace detail
+}  // namespace lru
+
+#endif
