@@ -10,7 +10,8 @@
 // Lookup and Release take no lock: each thread finds entries by readers of its own, one for each
 // shard. They are made by its first call on the shard, under the shard's mutex, and stay for a
 // later thread when it ends. These still take the mutex of a shard: Insert and Erase; the last
-// Release of an entry that was erased or replaced; and a thread for which there is no memory for a
+// Release of an entry that was erased or replaced, and each Release while pinned entries keep the
+// total above the capacity, as it evicts then; and a thread for which there is no memory for a
 // reader. An entry is one object on the heap, whose address is the handle.
 //
 // It has shards as LevelDBBlockCache of leveldb_cache.h has, but chooses another one for a key. In
@@ -20,8 +21,6 @@
 //    used again leave first, and one that is used often is spared several times.
 //  - While another thread inserts or erases entries of the same shard, Lookup may miss an entry
 //    that is there. The database reads the block then, as after any miss.
-//  - Release evicts nothing. If pinned entries have taken the total above the capacity, the next
-//    Insert evicts down to it.
 //  - Insert makes room while an older entry of the key counts.
 //  - An entry has at most about 2^30 handles. Then Lookup does not find it.
 //  - A new cache has no tables, and the typical charge only chooses the number of shards. While a
@@ -100,8 +99,9 @@ class LevelDBClockCache : public leveldb::Cache {
       const detail::ClockKey hashed = blocks_.Hashed(key);
       entry->shard = static_cast<std::uint8_t>(hashed.shard);
       Blocks::Call call(&blocks_, hashed.shard);
-      call.MakeRoom(weight);
+      const bool has_room = call.MakeRoom(weight);
       call.Add(hashed, entry, weight);
+      if (!has_room) call.SetAbove();
     }
     return HandleOf(entry);
   }

@@ -142,8 +142,8 @@ class ClockBlocks {
     const std::uint32_t shard = entry->shard, place = entry->place();
     lru_reader* const mine = shards_.mine(shard);
     const lru_code code = Shards::unpin(mine, place);
-    if (code == LRU_DONE) return false;
-    return Call(this, &shards_[shard]).EndRelease(place, mine, code);
+    if (code == LRU_DONE && !shards_[shard].is_above) return false;
+    return Call(this, &shards_[shard]).EndRelease(entry, place, mine, code);
   }
 
   // Visits each entry that its key finds. No mutex is held meanwhile, so the visitor may call the
@@ -207,6 +207,9 @@ class ClockBlocks {
  private:
   struct Shard : ClockShard<Entry> {
     std::size_t detached = 0;  // how many entries their keys do not find
+    // Whether pinned entries have kept the total above the capacity, so that releases evict. This
+    // is all that a hit reads of a shard, and it is written only when it changes.
+    alignas(64) std::atomic<bool> is_above{false};
   };
   using Shards = ClockShards<Shard>;
 
@@ -243,11 +246,10 @@ class ClockBlocks {
     Call(const Call&) = delete;
     Call& operator=(const Call&) = delete;
 
-    // Evicts until there is room for a charge, or all that is left is pinned.
-    void MakeRoom(std::uint64_t charge) { shard_.make_room(charge, &leaving_); }
-
-    // Whether there is room for a charge.
-    bool HasRoom(std::uint64_t charge) {
+    // Evicts until there is room for a charge, or all that is left is pinned, and returns whether
+    // there is room.
+    bool MakeRoom(std::uint64_t charge) {
+      shard_.make_room(charge, &leaving_);
       const std::uint64_t capacity = shard_.capacity();
       const std::uint64_t total = shard_.total();
       return total <= capacity && charge <= capacity - total;
@@ -274,8 +276,17 @@ class ClockBlocks {
       return replaces;
     }
 
-    // The same, of an entry that no key finds. The library adds one for a key that is erased while
-    // its value is made.
+    // Sets whether releases evict. Comes after each change by which the total may have come above
+    // the capacity.
+    void SetAbove() {
+      const bool is_above = shard_.total() > shard_.capacity();
+      if (shard_.is_above != is_above) shard_.is_above = is_above;
+      // A thread may have released an entry before this, and after the hand had passed it.
+      if (is_above) shard_.make_room(0, &leaving_);
+    }
+
+    // Adds an entry that no key finds, and pins it. The library adds one for a key that is erased
+    // while its value is made.
     void AddDetached(Entry* entry, std::uint64_t charge) {
       Words words = {0, 0};
       ClockKey key;
@@ -308,15 +319,18 @@ class ClockBlocks {
     void Unpin(const Entry& entry) { shard_.unpin(entry.place(), &leaving_); }
 
     // Ends what an unpin without the mutex has begun, and returns whether the entry has left. It
-    // may have left before this call.
-    bool EndRelease(std::uint32_t place, lru_reader* mine, lru_code code) {
-      return shard_.end_unpin(place, mine, code, &leaving_) == LRU_LAST;
+    // may have left before this call, and is not read.
+    bool EndRelease(const Entry* entry, std::uint32_t place, lru_reader* mine, lru_code code) {
+      if (code != LRU_DONE) code = shard_.end_unpin(place, mine, code, &leaving_);
+      if (shard_.is_above) EvictAbove();
+      return code == LRU_LAST || leaving_.Has(entry);
     }
 
     // Gives a pin back, and takes the entry away from its key.
     bool ReleaseAndEvict(Entry* entry) {
       if (!entry->is_detached()) Detach(blocks_.Hashed(entry->key()));
       Unpin(*entry);
+      if (shard_.is_above) EvictAbove();
       return leaving_.Has(entry);
     }
 
@@ -334,6 +348,7 @@ class ClockBlocks {
     template <class Capacity>
     void SetCapacity(const Capacity& capacity) {
       shard_.set_capacity(share(capacity(), blocks_.count()), &leaving_);
+      SetAbove();
     }
 
     // Deletes an entry that is not in the cache, without the mutex.
@@ -343,6 +358,11 @@ class ClockBlocks {
 
    private:
     friend ClockBlocks;
+
+    void EvictAbove() {
+      shard_.make_room(0, &leaving_);
+      SetAbove();
+    }
 
     void DetachFound(const ClockKey& key, const lru_found& found) {
       node_of<Entry>(found.value)->SetDetached(true);

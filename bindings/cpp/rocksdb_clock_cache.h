@@ -12,9 +12,9 @@
 // Lookup, Ref and Release take no lock: each thread finds entries by readers of its own, one for
 // each shard. They are made by its first call on the shard, under the shard's mutex, and stay for a
 // later thread when it ends. These still take the mutex of a shard: Insert and Erase; the last
-// Release of an entry that was erased or replaced; Release with erase_if_last_ref; and a thread for
-// which there is no memory for a reader. An entry is one object on the heap, whose address is the
-// handle.
+// Release of an entry that was erased or replaced; Release with erase_if_last_ref, and each Release
+// while pinned entries keep the total above the capacity, as it evicts then; and a thread for which
+// there is no memory for a reader. An entry is one object on the heap, whose address is the handle.
 //
 // In what it does it is as the caches of rocksdb_cache.h, except for this:
 //
@@ -24,8 +24,6 @@
 //    NotSupported, Lookup and CreateStandalone return null, and Erase does nothing.
 //  - While another thread inserts or erases entries of the same shard, Lookup may miss an entry
 //    that is there. The database reads the block then, as after any miss.
-//  - Release evicts nothing, unless it is asked to erase. If pinned entries have taken the total
-//    above the capacity, the next Insert or SetCapacity evicts down to it.
 //  - Insert makes room while an older entry of the key counts. With the strict limit, an Insert or
 //    a CreateStandalone that is refused has evicted the entries of the shard that are not pinned.
 //    RocksDB's own caches do the same.
@@ -205,8 +203,8 @@ class RocksDBClockCache
     entry->shard = static_cast<std::uint8_t>(hashed.shard);
     const std::uint64_t weight = WeightOf(*entry);
     typename Blocks::Call call(&blocks_, hashed.shard);
-    call.MakeRoom(weight);
-    if ((is_strict_ || handle == nullptr) && !call.HasRoom(weight)) {
+    const bool has_room = call.MakeRoom(weight);
+    if (!has_room && (is_strict_ || handle == nullptr)) {
       if (handle != nullptr) {
         Refuse(entry);
         return rocksdb::Status::MemoryLimit();
@@ -216,6 +214,7 @@ class RocksDBClockCache
       return rocksdb::Status::OK();
     }
     const bool replaces = call.Add(hashed, entry, weight);
+    if (!has_room) call.SetAbove();
     if (handle != nullptr) {
       *handle = HandleOf(entry);
     } else if (entry->is_cached) {
@@ -237,8 +236,9 @@ class RocksDBClockCache
     const std::uint64_t weight = WeightOf(*entry);
     typename Blocks::Call call(&blocks_, shard);
     const bool is_strict = is_strict_;
-    call.MakeRoom(weight);
-    if (!is_strict || call.HasRoom(weight)) call.AddDetached(entry, weight);
+    const bool has_room = call.MakeRoom(weight);
+    if (has_room || !is_strict) call.AddDetached(entry, weight);
+    if (!has_room) call.SetAbove();
     if (!entry->is_cached) {
       if (is_strict && !allow_uncharged) {
         Refuse(entry);

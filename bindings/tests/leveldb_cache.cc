@@ -198,10 +198,6 @@ void EvictsAtReleases(NewCache new_cache) {
   CHECK(cache.Get("a") == "1" && cache->TotalCharge() == 100);
   cache->Release(large);
   CHECK(cache.Deleted() == "a=1 " && cache->TotalCharge() == 0);
-}
-
-void CountsACharge0As1(NewCache new_cache) {
-  const Tested cache = new_cache(16);
   cache.Put("b", "2", 0);
   CHECK(cache->TotalCharge() == 1);
 }
@@ -370,15 +366,8 @@ void Common(NewCache new_cache) {
 }
 
 void Differences(NewCache new_cache) {
-  for (const auto test : {ChargesWhatIsHeld, ReplacesWhereItIsRefused, CountsACharge0As1,
-                          DeletesWhatIsLeft, DeletersMayCall}) {
-    test(new_cache);
-    Tested::Deleted();
-  }
-}
-
-void Releases(NewCache new_cache) {
-  for (const auto test : {FindsWhatIsHeldAtCapacity0, EvictsAtReleases}) {
+  for (const auto test : {ChargesWhatIsHeld, FindsWhatIsHeldAtCapacity0, ReplacesWhereItIsRefused,
+                          EvictsAtReleases, DeletesWhatIsLeft, DeletersMayCall}) {
     test(new_cache);
     Tested::Deleted();
   }
@@ -539,10 +528,7 @@ int main() {
   for (const NewCache new_cache : {Own, Any, Blocks, Clock}) Common(new_cache);
   for (const NewCache new_cache : {Any, Blocks, Clock}) {
     Differences(new_cache);
-    if (new_cache != Clock) {
-      Releases(new_cache);
-      EqualsOwn(new_cache);
-    }
+    if (new_cache != Clock) EqualsOwn(new_cache);
     // ThreadSanitizer does not see the atomics of the library, which order what threads do.
 #ifdef __SANITIZE_THREAD__
     if (new_cache == Clock) continue;

@@ -372,7 +372,7 @@ void IsStrict(NewCache new_cache) {
   cache->SetStrictCapacityLimit(false);
   CHECK(!cache->HasStrictCapacityLimit());
   Handle* large = cache.Insert("d", "6", 11);
-  CHECK(large != nullptr && cache.IsNew() && cache->Release(large, true));
+  CHECK(large != nullptr && cache.IsNew() && cache->Release(large));
   cache->SetStrictCapacityLimit(true);
   CHECK(cache.Insert("d", "7", 11) == nullptr && cache.IsRefused());
 }
@@ -570,8 +570,9 @@ void DeletersMayCall(NewCache new_cache) {
 
 void Common(NewCache new_cache) {
   for (const auto test :
-       {HitsAndMisses, TellsOfHandles, ErasesWhatIsHeld, ReplacesWhatIsHeld, Refs, HasNoRoom,
-        IsStrict, AppliesToAll, ForThisInterface, DeletersMayCall}) {
+       {HitsAndMisses, TellsOfHandles, ErasesWhatIsHeld, ReplacesWhatIsHeld, Refs,
+        EvictsAtReleases, FindsWhatIsHeldAtCapacity0, HasNoRoom, IsStrict, AppliesToAll,
+        ForThisInterface, DeletersMayCall}) {
     test(new_cache);
     Tested::Deleted();
   }
@@ -579,8 +580,7 @@ void Common(NewCache new_cache) {
 
 // Those for which entries must leave in the exact order of their last releases.
 void InOrder(NewCache new_cache) {
-  for (const auto test : {EvictsByLastRelease, ChangesItsCapacity, ErasesWithTheLastRelease,
-                          EvictsAtReleases, FindsWhatIsHeldAtCapacity0}) {
+  for (const auto test : {EvictsByLastRelease, ChangesItsCapacity, ErasesWithTheLastRelease}) {
     test(new_cache);
     Tested::Deleted();
   }
@@ -669,7 +669,7 @@ void ReplacesNothingIfItOverflows(NewCache new_cache) {
   Handle* two = cache.Insert("b", "2", kHalf);
   CHECK(two != nullptr && cache.IsNew() && cache.Counts(kHalf, kHalf, 1));
   CHECK(cache.Get("b") == "none" && cache->Release(two) && cache.Deleted() == "b=2 ");
-  CHECK(cache.Get("a") == "1" && cache->Release(one, true) && cache.Deleted() == "a=1 ");
+  CHECK(cache.Get("a") == "1" && cache->Release(one) && cache.Deleted() == "a=1 ");
 }
 
 #if ROCKSDB_MAJOR > 7
@@ -1314,6 +1314,8 @@ class SameAsModel {
       }
       CHECK(cache_->GetUsage() == usage && cache_->GetPinnedUsage() == pinned);
       CHECK(cache_->GetOccupancyCount() == found_.size());
+      // What is idle leaves until the rest fits.
+      CHECK(usage <= cache_->GetCapacity() || usage == pinned);
       times_[usage > cache_->GetCapacity() ? "above the capacity" : "below"]++;
       if (failed_checks > 20) return;
     }
@@ -1387,12 +1389,6 @@ class SameAsModel {
     return left;
   }
 
-  // Whether what is idle has left until the rest fits.
-  bool HasEvicted() const {
-    const std::size_t usage = cache_->GetUsage();
-    return usage <= cache_->GetCapacity() || usage == cache_->GetPinnedUsage();
-  }
-
   void Hold(const std::string& value, Handle* handle) {
     CHECK(cache_.ValueOf(handle) == value);
     CHECK(cache_->GetCharge(handle) == entries_[value].charge);
@@ -1434,7 +1430,6 @@ class SameAsModel {
       CHECK(Found(name) == old);
     }
     if (handle != nullptr) Hold(value, handle);
-    CHECK(HasEvicted());
     // No more has left than was needed.
     if (left.count > 0) CHECK(usage - left.charge + charge + left.largest > capacity);
     if (usage + charge <= capacity) CHECK(left.count == 0);
@@ -1495,7 +1490,6 @@ class SameAsModel {
     } else if (kind == 1) {
       cache_->SetCapacity(Below(4) == 0 ? Below(2 * kCapacity) : kCapacity);
       Take();
-      CHECK(HasEvicted());
     } else if (kind == 2 && limit_ == Limit::kChanging) {
       is_strict_ = !is_strict_;
       cache_->SetStrictCapacityLimit(is_strict_);
