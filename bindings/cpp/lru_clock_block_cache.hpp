@@ -139,11 +139,12 @@ class ClockBlocks {
   // Gives a handle back, and returns whether the entry has left the cache.
   bool Release(Entry* entry) {
     if (!entry->is_cached) return ReleaseUncached(entry);
-    const std::uint32_t shard = entry->shard, place = entry->place();
-    lru_reader* const mine = shards_.mine(shard);
+    const std::uint32_t place = entry->place();
+    Shard* const shard = &shards_[entry->shard];
+    lru_reader* const mine = shards_.mine(entry->shard);
     const lru_code code = Shards::unpin(mine, place);
-    if (code == LRU_DONE && !shards_[shard].is_above) return false;
-    return Call(this, &shards_[shard]).EndRelease(entry, place, mine, code);
+    if (code == LRU_DONE && !shard->is_above) return false;
+    return EndRelease(entry, shard, place, mine, code);
   }
 
   // Visits each entry that its key finds. No mutex is held meanwhile, so the visitor may call the
@@ -167,7 +168,7 @@ class ClockBlocks {
 
   // Gives a handle back, evicts the entry if that was the last one, and returns whether it has left
   // the cache.
-  bool ReleaseAndEvict(Entry* entry) {
+  [[gnu::noinline]] bool ReleaseAndEvict(Entry* entry) {
     if (!entry->is_cached) return ReleaseUncached(entry);
     return Call(this, &shards_[entry->shard]).ReleaseAndEvict(entry);
   }
@@ -387,10 +388,17 @@ class ClockBlocks {
   };
 
  private:
-  static bool ReleaseUncached(Entry* entry) {
+  // These are not inlined, so that a release that does not call them saves no registers for them.
+  [[gnu::cold, gnu::noinline]] static bool ReleaseUncached(Entry* entry) {
     if (entry->other_handles-- > 0) return false;
     delete entry;
     return true;
+  }
+
+  [[gnu::cold, gnu::noinline]] bool EndRelease(const Entry* entry, Shard* shard,
+                                               std::uint32_t place, lru_reader* mine,
+                                               lru_code code) const {
+    return Call(this, shard).EndRelease(entry, place, mine, code);
   }
 
   template <class Number>

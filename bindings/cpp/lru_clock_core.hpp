@@ -23,8 +23,20 @@ namespace detail {
 // A thread that has a number, in the list of them. Its memory is the thread's own.
 struct NumberedThread {
   static constexpr std::uint32_t kNone = UINT32_MAX;
+  // The lanes of the first chunk; each later one has twice as many as the one before.
+  static constexpr std::uint32_t kFirst = 8;
+
+  // Sets the number, and finds the lane for it, so that no hit has to.
+  void set(std::uint32_t n) noexcept {
+    const std::uint64_t nth = std::uint64_t{n} + kFirst;
+    number = n;
+    chunk = static_cast<std::uint32_t>(63 - __builtin_clzll(nth / kFirst));
+    lane = static_cast<std::uint32_t>(nth - (std::uint64_t{kFirst} << chunk));
+  }
 
   std::uint32_t number = kNone;
+  std::uint32_t chunk = kNone;
+  std::uint32_t lane = 0;  // in the chunk
   bool is_ending = false;
   NumberedThread* next = nullptr;
 };
@@ -36,8 +48,12 @@ class [[gnu::visibility("default")]] ThreadNumbers {
  public:
   // The number of this thread, or kNone if it has none: there is no memory for it, or the thread
   // is about to end.
-  static std::uint32_t mine() noexcept {
-    return mine_.number != NumberedThread::kNone ? mine_.number : take();
+  static std::uint32_t mine() noexcept { return this_thread().number; }
+
+  // This thread, which has no chunk if it has no number.
+  static const NumberedThread& this_thread() noexcept {
+    if (mine_.number == NumberedThread::kNone) take();
+    return mine_;
   }
 
  private:
@@ -54,19 +70,16 @@ class [[gnu::visibility("default")]] ThreadNumbers {
     std::atomic<bool> is_open;
   };
 
-  [[gnu::cold, gnu::noinline]] static std::uint32_t take() noexcept {
+  [[gnu::cold, gnu::noinline]] static void take() noexcept {
     static Key key;
     NumberedThread* const mine = &mine_;
-    if (mine->is_ending || !key.is_open || pthread_setspecific(key.key, mine) != 0) {
-      return NumberedThread::kNone;
-    }
+    if (mine->is_ending || !key.is_open || pthread_setspecific(key.key, mine) != 0) return;
     const std::lock_guard<std::mutex> lock(mutex_);
     std::uint32_t number = 0;
     NumberedThread** place = &first_;
     for (; *place != nullptr && (*place)->number == number; number++) place = &(*place)->next;
-    mine->number = number;
+    mine->set(number);
     mine->next = std::exchange(*place, mine);
-    return number;
   }
 
   static void give_back(void* at) noexcept {
@@ -75,7 +88,7 @@ class [[gnu::visibility("default")]] ThreadNumbers {
     NumberedThread** place = &first_;
     while (*place != mine) place = &(*place)->next;
     *place = mine->next;
-    mine->number = NumberedThread::kNone;
+    mine->number = mine->chunk = NumberedThread::kNone;
     mine->is_ending = true;
   }
 
@@ -89,15 +102,14 @@ class [[gnu::visibility("default")]] ThreadNumbers {
 // in chunks, each for twice as many threads as the one before, which never move.
 class Lanes {
  public:
-  explicit Lanes(std::size_t shards) noexcept : lines_((shards + kInLine - 1) / kInLine) {}
+  explicit Lanes(std::size_t shards) noexcept
+      : readers_((shards + kInLine - 1) / kInLine * kInLine) {}
 
   ~Lanes() {
     for (std::size_t number = 0; number < kChunks; number++) {
-      const std::unique_ptr<Line[]> chunk(chunks_[number].load(std::memory_order_acquire));
+      const Chunk chunk(chunks_[number].load(std::memory_order_acquire));
       if (chunk == nullptr) continue;
-      for (std::size_t line = 0; line < count_of(number); line++) {
-        for (lru_reader& reader : chunk[line].readers) lru_reader_free(&reader);
-      }
+      for (std::size_t i = 0; i < count_of(number); i++) lru_reader_free(&chunk[i]);
     }
   }
 
@@ -107,44 +119,43 @@ class Lanes {
   // This thread's reader of a shard, which need not be open. Null if the thread has no number, or
   // there is no memory for its lane.
   lru_reader* mine(std::size_t shard) noexcept {
-    const std::uint64_t number = ThreadNumbers::mine() + kFirst;
-    if (number >= kFirst << kChunks) return nullptr;
-    const std::size_t chunk = static_cast<std::size_t>(63 - __builtin_clzll(number / kFirst));
-    Line* lines = chunks_[chunk].load(std::memory_order_acquire);
-    if (lines == nullptr && (lines = add(chunk)) == nullptr) return nullptr;
-    const std::size_t lane = static_cast<std::size_t>(number - (kFirst << chunk));
-    return &lines[lane * lines_ + shard / kInLine].readers[shard % kInLine];
+    const NumberedThread& thread = ThreadNumbers::this_thread();
+    if (thread.chunk >= kChunks) return nullptr;
+    lru_reader* readers = chunks_[thread.chunk].load(std::memory_order_acquire);
+    if (readers == nullptr && (readers = add(thread.chunk)) == nullptr) return nullptr;
+    return &readers[thread.lane * readers_ + shard];
   }
 
  private:
-  static constexpr std::size_t kInLine = 4;
+  // A line of the processor's cache, which no two lanes share.
+  static constexpr std::align_val_t kLine{64};
+  static constexpr std::size_t kInLine = 64 / sizeof(lru_reader);
+  static_assert(64 % sizeof(lru_reader) == 0, "lru: a line is full of readers");
 
-  // No two lanes share a line of the processor's cache.
-  struct alignas(64) Line {
-    lru_reader readers[kInLine];
-  };
-  static_assert(sizeof(Line) == 64, "lru: a line of readers is a line of the processor's cache");
-
-  // How many lanes the first chunk has, and how many chunks there are: enough for twice as many
-  // threads as Linux can have.
-  static constexpr std::uint64_t kFirst = 8;
+  // How many chunks there are: enough for twice as many threads as Linux can have.
   static constexpr std::size_t kChunks = 20;
 
+  struct Delete {
+    void operator()(lru_reader* readers) const noexcept { ::operator delete[](readers, kLine); }
+  };
+  using Chunk = std::unique_ptr<lru_reader[], Delete>;
+
+  // The number of readers in a chunk.
   std::size_t count_of(std::size_t chunk) const noexcept {
-    return static_cast<std::size_t>(kFirst << chunk) * lines_;
+    return (std::size_t{NumberedThread::kFirst} << chunk) * readers_;
   }
 
-  [[gnu::cold, gnu::noinline]] Line* add(std::size_t number) noexcept {
-    std::unique_ptr<Line[]> chunk(new (std::nothrow) Line[count_of(number)]());
-    Line* other = nullptr;
+  [[gnu::cold, gnu::noinline]] lru_reader* add(std::size_t number) noexcept {
+    Chunk chunk(new (kLine, std::nothrow) lru_reader[count_of(number)]());
+    lru_reader* other = nullptr;
     if (chunk == nullptr || !chunks_[number].compare_exchange_strong(other, chunk.get())) {
       return other;
     }
     return chunk.release();
   }
 
-  const std::size_t lines_;  // of a lane
-  std::atomic<Line*> chunks_[kChunks] = {};
+  const std::size_t readers_;  // of a lane, and those that fill its last line
+  std::atomic<lru_reader*> chunks_[kChunks] = {};
 };
 
 // A key, the hash by which the clock of a shard finds it, and the shard.

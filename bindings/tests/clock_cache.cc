@@ -63,6 +63,9 @@ void* __wrap_realloc(void* block, std::size_t size) {
   return is_refused() ? nullptr : std::aligned_alloc(static_cast<std::size_t>(align), size);
 }
 [[gnu::noinline]] void operator delete[](void* at, std::align_val_t) noexcept { std::free(at); }
+[[gnu::noinline]] void operator delete[](void* at, std::size_t, std::align_val_t) noexcept {
+  std::free(at);
+}
 
 namespace {
 
