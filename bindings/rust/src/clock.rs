@@ -409,9 +409,10 @@ impl<K: WordsKey + ?Sized, V> Cache<K, V> {
         let mut left = Left::new();
         let shard = &self.shards[route.shard];
         let mut state = shard.lock();
-        let (inserted, is_awaited) = state.insert(route, node, &mut left);
-        shard.unlock(state, is_awaited);
-        let handle = self.handle(route.shard, inserted?);
+        let (inserted, ended) = state.insert(route, node, &mut left);
+        let inserted = inserted.map(|pin| self.handle(route.shard, pin));
+        shard.unlock(state, ended);
+        let handle = inserted?;
         // If the drop of a value panics, the handle is dropped too. It would be leaked if it were
         // the return value already.
         drop(left);
@@ -489,8 +490,8 @@ impl<K: WordsKey + ?Sized, V> Cache<K, V> {
         self.shards.iter().try_for_each(|shard| {
             let mut left = Left::new();
             let mut state = shard.lock();
-            let (cleared, is_awaited) = state.clear(self.seed, self.shards.len(), &mut left);
-            shard.unlock(state, is_awaited);
+            let (cleared, ended) = state.clear(self.seed, self.shards.len(), &mut left);
+            shard.unlock(state, ended);
             cleared
         })
     }
@@ -708,8 +709,8 @@ impl<K: WordsKey + ?Sized, V> Cache<K, V> {
         let mut left = Left::new();
         let shard = &self.shards[route.shard];
         let mut state = shard.lock();
-        let is_awaited = is_so() && state.erase(route, &mut left);
-        shard.unlock(state, is_awaited);
+        let ended = is_so().then(|| state.erase(route, &mut left)).flatten();
+        shard.unlock(state, ended);
     }
 
     /// Calls `visit` with a handle of each value that its key finds.
@@ -814,9 +815,10 @@ impl<'a, K: WordsKey + ?Sized, V> Maker<'a, K, V> {
         let mut left = Left::new();
         let shard = &this.cache.shards[this.route.shard];
         let mut state = shard.lock();
-        let (made, is_awaited) = state.ready(this.route, this.ticket, node, &mut left);
-        shard.unlock(state, is_awaited);
-        let handle = this.cache.handle(this.route.shard, made?);
+        let (made, ended) = state.ready(this.route, this.ticket, node, &mut left);
+        let made = made.map(|pin| this.cache.handle(this.route.shard, pin));
+        shard.unlock(state, ended);
+        let handle = made?;
         // As in `insert`.
         drop(left);
         Ok(handle)
@@ -827,8 +829,8 @@ impl<K: WordsKey + ?Sized, V> Drop for Maker<'_, K, V> {
     fn drop(&mut self) {
         let shard = &self.cache.shards[self.route.shard];
         let mut state = shard.lock();
-        let is_awaited = state.fail(self.ticket);
-        shard.unlock(state, is_awaited);
+        let ended = state.fail(self.ticket);
+        shard.unlock(state, ended);
     }
 }
 

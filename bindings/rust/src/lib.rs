@@ -69,6 +69,7 @@ mod proved;
 pub mod sharded;
 mod stats;
 pub mod unsharded;
+mod waiting;
 
 pub use entry::EntryRef;
 pub use error::{GetError, Refusal};

@@ -2,12 +2,12 @@
 
 use std::collections::HashMap;
 use std::hash::{BuildHasherDefault, Hasher};
-use std::mem;
 use std::task::Waker;
 use std::time::Duration;
 
 use crate::error::{Refusal, room};
 use crate::ffi::Pin;
+use crate::waiting::WaitList;
 
 /// What a caller that asks for a value gets: `H` is a handle, and `M` a guard of the making.
 #[derive(Debug)]
@@ -25,11 +25,8 @@ pub(crate) struct Making {
     pin: Pin,
     /// How many callers wait for the value.
     waiting: usize,
-    /// How many of them are threads that sleep.
-    sleeping: usize,
-    /// The wakers of those that are tasks, each with its ticket. Tickets ascend.
-    tasks: Vec<(u64, Waker)>,
-    next_ticket: u64,
+    /// Those of them that sleep.
+    pub(crate) wait_list: WaitList,
     /// How many callers do not wait any more. The library takes their pins back only when the value
     /// has been made, or when each of them has failed to make it.
     left: usize,
@@ -40,9 +37,7 @@ impl Making {
         Making {
             pin,
             waiting: 0,
-            sleeping: 0,
-            tasks: Vec::new(),
-            next_ticket: 0,
+            wait_list: WaitList::default(),
             left: 0,
         }
     }
@@ -61,8 +56,7 @@ impl Making {
     pub(crate) fn leave(&mut self, ticket: Option<u64>) -> Option<Waker> {
         self.waiting -= 1;
         self.left += 1;
-        let place = self.place(ticket?)?;
-        Some(self.tasks.remove(place).1)
+        self.wait_list.remove_task(ticket?)
     }
 
     pub(crate) fn is_awaited(&self) -> bool {
@@ -72,56 +66,6 @@ impl Making {
     pub(crate) fn left(&self) -> usize {
         self.left
     }
-
-    pub(crate) fn sleep(&mut self) {
-        self.sleeping += 1;
-    }
-
-    pub(crate) fn wake_up(&mut self) {
-        self.sleeping -= 1;
-    }
-
-    /// Stores the waker of a task, which is woken once, and gives it a ticket if it has none. Puts
-    /// the old waker of the task in its place, as wakers must be dropped without the lock.
-    pub(crate) fn sleep_as_task(
-        &mut self,
-        ticket: &mut Option<u64>,
-        waker: &mut Option<Waker>,
-    ) -> Result<(), Refusal> {
-        if let Some(place) = ticket.and_then(|ticket| self.place(ticket)) {
-            if let Some(waker) = waker {
-                mem::swap(&mut self.tasks[place].1, waker);
-            }
-            return Ok(());
-        }
-        room(self.tasks.try_reserve(1))?;
-        if let Some(waker) = waker.take() {
-            *ticket = Some(self.next_ticket);
-            self.tasks.push((self.next_ticket, waker));
-            self.next_ticket += 1;
-        }
-        Ok(())
-    }
-
-    /// Those that sleep, who must be woken.
-    pub(crate) fn sleepers(&mut self) -> Sleepers {
-        Sleepers {
-            has_threads: self.sleeping > 0,
-            tasks: mem::take(&mut self.tasks),
-        }
-    }
-
-    fn place(&self, ticket: u64) -> Option<usize> {
-        let place = self.tasks.binary_search_by_key(&ticket, |task| task.0);
-        place.ok()
-    }
-}
-
-/// Callers that sleep while they wait for a value.
-#[derive(Debug, Default)]
-pub(crate) struct Sleepers {
-    pub(crate) has_threads: bool,
-    pub(crate) tasks: Vec<(u64, Waker)>,
 }
 
 /// The values that are being made, by the stamps of their entries. No call of the library shows

@@ -19,9 +19,10 @@ use crate::ffi::{Gone, Pin};
 use crate::form::{self, Form, Hashed, Written};
 use crate::key::Key;
 use crate::leaving::{Evicted, Leaving, Listener, Reason};
-use crate::makings::{self, Loads, Makings, Sleepers};
+use crate::makings::{self, Loads, Makings};
 use crate::proved::{Asked, Core, random_seed};
 use crate::stats::Stats;
+use crate::waiting::Sleepers;
 
 /// A cache of heavy values that threads share, behind one lock.
 ///
@@ -124,7 +125,7 @@ impl<F: Form, V> Shared<F, V> {
         for _ in 0..making.left() {
             self.core.unpin(pin);
         }
-        (value, making.sleepers())
+        (value, making.wait_list.sleepers())
     }
 
     /// Tells that the caller could not make the value, and gives its pin back.
@@ -132,7 +133,7 @@ impl<F: Form, V> Shared<F, V> {
         let mut has_others = self.core.fail(pin);
         if let Some(making) = self.makings.get(pin) {
             if making.is_awaited() {
-                return making.sleepers();
+                return making.wait_list.sleepers();
             }
         }
         // All others have left, so each of them fails in turn.
@@ -1035,19 +1036,9 @@ impl<K: Key + ?Sized, V> LruCache<K, V> {
 
     /// Releases the lock, and wakes those that wait for the value that was made, or could not be
     /// made.
-    ///
-    /// All threads that wait, for whatever value, wait at one condition: a slow value whose key
-    /// many ask for would else make them wake for each value that is made meanwhile. Who waits is
-    /// counted with the lock held, and lets go of the lock only by waiting, so no notification is
-    /// missed. Wakers run code of their tasks, which may call the cache.
     fn wake(&self, shared: MutexGuard<'_, Shared<K::Form, V>>, sleepers: Sleepers) {
         drop(shared);
-        if sleepers.has_threads {
-            self.ended.notify_all();
-        }
-        for (_, task) in sleepers.tasks {
-            task.wake();
-        }
+        sleepers.wake(&self.ended);
     }
 }
 
@@ -1178,11 +1169,11 @@ impl<'a, K: Key + ?Sized, V> Waiter<'a, K, V> {
     ) -> Result<Begun<'a, K, V>, Refusal> {
         loop {
             if let Some(making) = shared.makings.get(self.pin) {
-                making.sleep();
+                making.wait_list.add_thread();
             }
             shared = unpoisoned(self.cache.ended.wait(shared));
             if let Some(making) = shared.makings.get(self.pin) {
-                making.wake_up();
+                making.wait_list.remove_thread();
             }
             if let Some(begun) = self.ask(&mut shared)? {
                 return Ok(begun);
@@ -1200,7 +1191,7 @@ impl<'a, K: Key + ?Sized, V> Waiter<'a, K, V> {
             return Poll::Ready(Ok(begun));
         }
         if let Some(making) = shared.makings.get(self.pin) {
-            making.sleep_as_task(&mut self.ticket, &mut waker)?;
+            making.wait_list.add_task(&mut self.ticket, &mut waker)?;
         }
         Poll::Pending
     }

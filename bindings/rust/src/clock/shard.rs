@@ -1,6 +1,7 @@
 //! A shard: a clock of the library behind a lock, with values in boxes.
 
 use std::marker::PhantomData;
+use std::mem;
 use std::ptr::NonNull;
 use std::sync::atomic::{AtomicBool, Ordering};
 use std::sync::{Condvar, Mutex, MutexGuard};
@@ -10,6 +11,7 @@ use crate::ffi::{self, Found, Handle};
 use crate::hash::hash_of_words;
 use crate::proved::{done, refusal, value_of, word_of};
 use crate::unsharded::unpoisoned;
+use crate::waiting::WaitList;
 
 /// A value with what a visit of all values shows of it. The library stores the address of a node,
 /// and owns it from `add` or `ready` until it tells that the entry has left.
@@ -158,10 +160,11 @@ pub(super) enum Turn<V> {
 }
 
 /// A value that is being made, and that its key will find.
-struct Making {
+pub(super) struct Making {
     ticket: u64,
     route: Route,
-    is_awaited: bool,
+    /// Those that sleep until the making has ended.
+    wait_list: WaitList,
 }
 
 /// A shard of a cache. Look-ups without the lock do not read it, so they share no line with what
@@ -195,23 +198,30 @@ impl<V> Shard<V> {
         unpoisoned(self.state.lock())
     }
 
-    /// Waits until a making has ended.
+    /// Blocks the thread until a making has ended.
     pub(super) fn wait<'a>(
         &'a self,
         mut state: MutexGuard<'a, State<V>>,
         ticket: u64,
     ) -> MutexGuard<'a, State<V>> {
-        while state.makings.iter().any(|making| making.ticket == ticket) {
+        if let Some(list) = state.wait_list(ticket) {
+            list.add_thread();
+        }
+        while state.wait_list(ticket).is_some() {
             state = unpoisoned(self.ended.wait(state));
         }
         state
     }
 
-    /// Releases the lock, and wakes those that wait if a making has ended that is awaited.
-    pub(super) fn unlock(&self, state: MutexGuard<'_, State<V>>, is_awaited: bool) {
+    /// Releases the lock, and wakes those that wait for makings that have ended.
+    pub(super) fn unlock(
+        &self,
+        state: MutexGuard<'_, State<V>>,
+        ended: impl IntoIterator<Item = Making>,
+    ) {
         drop(state);
-        if is_awaited {
-            self.ended.notify_all();
+        for mut making in ended {
+            making.wait_list.sleepers().wake(&self.ended);
         }
     }
 }
@@ -281,31 +291,37 @@ impl<V> State<V> {
                 self.makings.push(Making {
                     ticket,
                     route,
-                    is_awaited: false,
+                    wait_list: WaitList::default(),
                 });
                 Ok(Turn::Make(ticket))
             }
             ffi::WAIT => {
-                let mut makings = self.makings.iter_mut();
+                let mut makings = self.makings.iter();
                 let Some(making) = makings.find(|making| making.route.key == route.key) else {
                     unreachable!("the library and the list have the same makings");
                 };
-                making.is_awaited = true;
                 Ok(Turn::Wait(making.ticket))
             }
             code => Err(refusal(code)),
         }
     }
 
+    /// Those that sleep until a making has ended. Returns `None` if it has.
+    pub(super) fn wait_list(&mut self, ticket: u64) -> Option<&mut WaitList> {
+        let mut makings = self.makings.iter_mut();
+        let making = makings.find(|making| making.ticket == ticket)?;
+        Some(&mut making.wait_list)
+    }
+
     /// Stores the value that was made with a ticket, and pins it. If it is refused, the making has
-    /// failed. Also returns whether the making is awaited.
+    /// failed. Also returns the making, if it had not ended before.
     pub(super) fn ready(
         &mut self,
         route: Route,
         ticket: u64,
         node: Box<Node<V>>,
         left: &mut Left<V>,
-    ) -> (Result<Pin<V>, Refusal>, bool) {
+    ) -> (Result<Pin<V>, Refusal>, Option<Making>) {
         self.make_room(node.charge, left);
         let ended = self.end(|making| making.ticket == ticket);
         if ended.is_none() {
@@ -316,37 +332,37 @@ impl<V> State<V> {
             // SAFETY: this state has the only copy of the handle.
             unsafe { ffi::lru_clock_ready(clock, ticket, route.hash, charge, word) }
         });
-        (stored, ended == Some(true))
+        (stored, ended)
     }
 
-    /// Ends a making that failed. Returns whether it is awaited.
-    pub(super) fn fail(&mut self, ticket: u64) -> bool {
+    /// Ends a making that failed. Returns it, if it had not ended before.
+    pub(super) fn fail(&mut self, ticket: u64) -> Option<Making> {
         // SAFETY: this state has the only copy of the handle.
         let code = unsafe { ffi::lru_clock_fail(&mut self.clock, ticket) };
         debug_assert_eq!(code, ffi::DONE);
-        self.end(|making| making.ticket == ticket) == Some(true)
+        self.end(|making| making.ticket == ticket)
     }
 
-    /// Invalidates a key, and stores a value for it, which is pinned. Also returns whether a making
-    /// has ended that is awaited.
+    /// Invalidates a key, and stores a value for it, which is pinned. Also returns the making that
+    /// this has ended, if one.
     pub(super) fn insert(
         &mut self,
         route: Route,
         node: Box<Node<V>>,
         left: &mut Left<V>,
-    ) -> (Result<Pin<V>, Refusal>, bool) {
+    ) -> (Result<Pin<V>, Refusal>, Option<Making>) {
         if self.total().checked_add(node.charge).is_none() {
             left.push(node);
-            return (Err(Refusal::Overflow), false);
+            return (Err(Refusal::Overflow), None);
         }
-        let is_awaited = self.erase(route, left);
+        let ended = self.erase(route, left);
         self.make_room(node.charge, left);
         let [first, second] = route.key;
         let stored = self.store(node, left, |clock, charge, word| {
             // SAFETY: this state has the only copy of the handle.
             unsafe { ffi::lru_clock_add(clock, route.hash, first, second, charge, word) }
         });
-        (stored, is_awaited)
+        (stored, ended)
     }
 
     /// Stores a node by a function of the library, which is given its charge and its word. A node
@@ -368,8 +384,8 @@ impl<V> State<V> {
         Err(refusal(found.code))
     }
 
-    /// Invalidates a key. Returns whether a making has ended that is awaited.
-    pub(super) fn erase(&mut self, route: Route, left: &mut Left<V>) -> bool {
+    /// Invalidates a key. Returns the making that this has ended, if one.
+    pub(super) fn erase(&mut self, route: Route, left: &mut Left<V>) -> Option<Making> {
         // A value that cannot be pinned once more is invalidated too.
         let found = self.find(route).ok().flatten();
         if let Some(pin) = found {
@@ -387,13 +403,13 @@ impl<V> State<V> {
         if let Some(pin) = found {
             self.unpin(pin.place, left);
         }
-        self.end(|making| making.route.key == route.key) == Some(true)
+        self.end(|making| making.route.key == route.key)
     }
 
-    /// Removes a making from the list. Returns whether it is awaited, or `None` if there is none.
-    fn end(&mut self, is_it: impl FnMut(&Making) -> bool) -> Option<bool> {
+    /// Removes a making from the list.
+    fn end(&mut self, is_it: impl FnMut(&Making) -> bool) -> Option<Making> {
         let place = self.makings.iter().position(is_it)?;
-        Some(self.makings.swap_remove(place).is_awaited)
+        Some(self.makings.swap_remove(place))
     }
 
     /// Evicts entries until a charge has room, or all that are left are pinned.
@@ -415,23 +431,23 @@ impl<V> State<V> {
         }
     }
 
-    /// Invalidates every key of the cache with this seed and number of shards. Returns whether a
-    /// making has ended that is awaited.
+    /// Invalidates every key of the cache with this seed and number of shards. Also returns the
+    /// makings that this has ended.
     pub(super) fn clear(
         &mut self,
         seed: u64,
         shards: usize,
         left: &mut Left<V>,
-    ) -> (Result<(), Refusal>, bool) {
-        let mut is_awaited = false;
-        while let Some(making) = self.makings.last() {
-            is_awaited |= self.erase(making.route, left);
+    ) -> (Result<(), Refusal>, Vec<Making>) {
+        let ended = mem::take(&mut self.makings);
+        for making in &ended {
+            self.erase(making.route, left);
         }
         for place in 0..self.places() {
             let pin: Pin<V> = match told(self.pin_at(place)) {
                 Ok(Some(pin)) => pin,
                 Ok(None) => continue,
-                Err(refusal) => return (Err(refusal), is_awaited),
+                Err(refusal) => return (Err(refusal), ended),
             };
             // SAFETY: the entry is pinned, so its node stays.
             let node = unsafe { pin.node.as_ref() };
@@ -440,7 +456,7 @@ impl<V> State<V> {
             }
             self.unpin(place, left);
         }
-        (Ok(()), is_awaited)
+        (Ok(()), ended)
     }
 
     /// Sets the capacity, and evicts down to it.
