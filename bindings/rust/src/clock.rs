@@ -11,7 +11,8 @@
 //! - Dropping a handle evicts nothing. If pinned values took the total above the capacity, the next
 //!   call that stores a value evicts down to it.
 //! - Values are evicted when a new one is stored, not when its making begins, and a value that is
-//!   being made does not count.
+//!   being made does not count. So its charge need not be known before it is made
+//!   ([`get_or_init_with`](Cache::get_or_init_with)).
 //! - [`read`](Cache::read), [`retain`](Cache::retain) and [`for_each`](Cache::for_each) hold no
 //!   lock while they call back. `for_each` does not tell how many handles a value has, and may be
 //!   refused.
@@ -67,6 +68,10 @@ use crate::sharded::{shards_for, share};
 
 use lanes::Lanes;
 use shard::{Left, Node, Pin, Route, Shard, State, Turn, told};
+
+/// A charge for the beginning of a making whose charge is told with the value. The library does not
+/// keep it.
+const UNKNOWN_CHARGE: u64 = 1;
 
 /// A cache of heavy values that threads share, whose hits take no lock.
 ///
@@ -261,10 +266,7 @@ impl<K: WordsKey + ?Sized, V> Cache<K, V> {
         Q: WordsKey<Form = K::Form> + ?Sized,
     {
         self.get_or_try_init(key, charge, |key| Ok::<_, Infallible>(init(key)))
-            .map_err(|error| match error {
-                GetError::Init(never) => match never {},
-                GetError::Refused(refusal) => refusal,
-            })
+            .map_err(GetError::into_refusal)
     }
 
     /// Returns a handle of the key's value. If there is none, `init` makes it, or fails.
@@ -290,6 +292,96 @@ impl<K: WordsKey + ?Sized, V> Cache<K, V> {
         match self.begin(self.route(key), charge)? {
             Begun::Hit(handle) => Ok(handle),
             Begun::Make(maker) => Ok(maker.ready(init(key).map_err(GetError::Init)?)?),
+        }
+    }
+
+    /// Returns a handle of the key's value. If there is none, `init` makes it, and returns it with
+    /// its charge.
+    ///
+    /// This is [`get_or_init`](Self::get_or_init) for a charge that is not known before the value,
+    /// as the length of a file that is read.
+    ///
+    /// # Errors
+    ///
+    /// [`Refusal::ZeroCharge`] if `init` returns a charge of 0: its value is dropped, and if others
+    /// are waiting, one of them makes the value. [`Refusal::Overflow`] and [`Refusal::Memory`] as
+    /// [`get_or_init`](Self::get_or_init).
+    ///
+    /// # Examples
+    ///
+    /// ```
+    /// use concurrent_lru_proved::clock::Cache;
+    ///
+    /// # fn main() -> Result<(), concurrent_lru_proved::Refusal> {
+    /// let cache = Cache::<u64, String>::new(1000)?;
+    /// let handle = cache.get_or_init_with(&7, |key| {
+    ///     let text = format!("the number {key}");
+    ///     let charge = text.len() as u64;
+    ///     (text, charge)
+    /// })?;
+    /// assert_eq!((&**handle, cache.total_charge()), ("the number 7", 12));
+    /// # Ok(())
+    /// # }
+    /// ```
+    #[inline]
+    pub fn get_or_init_with<Q>(
+        &self,
+        key: &Q,
+        init: impl FnOnce(&Q) -> (V, u64),
+    ) -> Result<CacheHandle<'_, K, V>, Refusal>
+    where
+        K: Borrow<Q>,
+        Q: WordsKey<Form = K::Form> + ?Sized,
+    {
+        self.get_or_try_init_with(key, |key| Ok::<_, Infallible>(init(key)))
+            .map_err(GetError::into_refusal)
+    }
+
+    /// Returns a handle of the key's value. If there is none, `init` makes it, and returns it with
+    /// its charge, or fails.
+    ///
+    /// This is [`get_or_try_init`](Self::get_or_try_init) for a charge that is not known before the
+    /// value.
+    ///
+    /// # Errors
+    ///
+    /// [`GetError::Init`] with the error of `init`, and [`GetError::Refused`] in the cases of
+    /// [`get_or_init_with`](Self::get_or_init_with).
+    ///
+    /// # Examples
+    ///
+    /// ```no_run
+    /// use concurrent_lru_proved::clock::Cache;
+    /// use std::{fs, io};
+    ///
+    /// # fn main() -> io::Result<()> {
+    /// // A megabyte of parts of a file.
+    /// let parts = Cache::<u64, Vec<u8>>::new(1 << 20)?;
+    /// let part = parts.get_or_try_init_with(&7, |number| {
+    ///     let bytes = fs::read(format!("part_{number}"))?;
+    ///     let charge = bytes.len() as u64 + 64;
+    ///     Ok::<_, io::Error>((bytes, charge))
+    /// })?;
+    /// println!("{} bytes", part.len());
+    /// # Ok(())
+    /// # }
+    /// ```
+    #[inline]
+    pub fn get_or_try_init_with<Q, E>(
+        &self,
+        key: &Q,
+        init: impl FnOnce(&Q) -> Result<(V, u64), E>,
+    ) -> Result<CacheHandle<'_, K, V>, GetError<E>>
+    where
+        K: Borrow<Q>,
+        Q: WordsKey<Form = K::Form> + ?Sized,
+    {
+        match self.begin(self.route(key), UNKNOWN_CHARGE)? {
+            Begun::Hit(handle) => Ok(handle),
+            Begun::Make(maker) => {
+                let (value, charge) = init(key).map_err(GetError::Init)?;
+                Ok(maker.ready_with(value, charge)?)
+            }
         }
     }
 
@@ -810,8 +902,19 @@ struct Maker<'a, K: WordsKey + ?Sized, V> {
 impl<'a, K: WordsKey + ?Sized, V> Maker<'a, K, V> {
     /// Stores the value, and wakes those that wait for it.
     fn ready(self, value: V) -> Result<CacheHandle<'a, K, V>, Refusal> {
+        let charge = self.charge;
+        self.ready_with(value, charge)
+    }
+
+    /// Stores the value with this charge, and wakes those that wait for it.
+    fn ready_with(self, value: V, charge: u64) -> Result<CacheHandle<'a, K, V>, Refusal> {
+        if charge == 0 {
+            // The making ends before the value is dropped, which may take long.
+            drop(self);
+            return Err(Refusal::ZeroCharge);
+        }
         let this = ManuallyDrop::new(self);
-        let node = Node::new(this.route.key, this.charge, value);
+        let node = Node::new(this.route.key, charge, value);
         let mut left = Left::new();
         let shard = &this.cache.shards[this.route.shard];
         let mut state = shard.lock();

@@ -1,6 +1,7 @@
 //! The reasons why a call fails.
 
 use std::collections::TryReserveError;
+use std::convert::Infallible;
 use std::error::Error;
 use std::fmt;
 use std::io;
@@ -47,6 +48,16 @@ pub enum GetError<E> {
     Init(E),
     /// The cache refused the call.
     Refused(Refusal),
+}
+
+impl GetError<Infallible> {
+    /// The refusal, if `init` cannot fail.
+    pub(crate) fn into_refusal(self) -> Refusal {
+        match self {
+            GetError::Init(never) => match never {},
+            GetError::Refused(refusal) => refusal,
+        }
+    }
 }
 
 impl<E> From<Refusal> for GetError<E> {

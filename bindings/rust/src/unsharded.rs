@@ -331,10 +331,7 @@ impl<K: Key + ?Sized, V> LruCache<K, V> {
         Q: Key<Form = K::Form> + ?Sized,
     {
         self.get_or_try_init(key, charge, |key| Ok::<_, Infallible>(init(key)))
-            .map_err(|error| match error {
-                GetError::Init(never) => match never {},
-                GetError::Refused(refusal) => refusal,
-            })
+            .map_err(GetError::into_refusal)
     }
 
     /// Returns a handle of the key's value. If there is none, `init` makes it, or fails.

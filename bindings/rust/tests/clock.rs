@@ -303,6 +303,76 @@ fn a_loader_runs_only_if_there_is_no_value() -> Result<(), GetError<String>> {
 }
 
 #[test]
+fn a_loader_may_tell_the_charge_with_the_value() -> Result<(), GetError<()>> {
+    let cache = one_shard(10)?;
+    let counter = Counter::default();
+    for key in 1..10 {
+        let made = cache.get_or_init_with(&key, |key| (counter.make(*key), *key))?;
+        assert_eq!((made.1, cache.pinned_charge()), (key, key.into()));
+        assert!(cache.total_charge() <= 10);
+    }
+    // No loader runs for a value that is there, which keeps its charge.
+    let total = cache.total_charge();
+    let found = cache.get_or_init_with(&9, |_| unreachable!("it is there"))?;
+    let again = cache.get_or_try_init_with(&9, |_| Err(()))?;
+    assert_eq!((found.1, again.1, cache.total_charge()), (9, 9, total));
+    drop((found, again));
+    let failed = cache.get_or_try_init_with(&1, |_| Err(()));
+    assert_eq!(failed.err(), Some(GetError::Init(())));
+    assert!(!cache.contains(&1)?);
+    // Everything leaves for a charge above the capacity, except what is pinned.
+    let large = cache.get_or_try_init_with(&1, |_| Ok((counter.make(1), 11)))?;
+    assert_eq!((large.1, cache.len(), cache.total_charge()), (1, 1, 11));
+    // One that is too large beside it is refused and dropped, and the making has failed.
+    let dropped = counter.dropped();
+    let refused = cache.get_or_init_with(&2, |_| (counter.make(2), u64::MAX));
+    assert_eq!(refused.err(), Some(Refusal::Overflow));
+    assert_eq!((counter.dropped(), cache.len()), (dropped + 1, 1));
+    let made = cache.get_or_init_with(&2, |_| (counter.make(2), 1))?;
+    assert_eq!((made.1, cache.pinned_charge()), (2, 12));
+    Ok(())
+}
+
+#[test]
+fn a_charge_of_0_that_a_loader_returns_is_refused() -> Result<(), Refusal> {
+    let cache = Arc::new(one_shard(10)?);
+    let counter = Counter::default();
+    let refused = cache.get_or_try_init_with(&7, |_| Ok::<_, ()>((counter.make(1), 0)));
+    assert_eq!(refused.err(), Some(GetError::Refused(Refusal::ZeroCharge)));
+    assert_eq!((counter.dropped(), cache.contains(&7)?), (1, false));
+    // One of those that wait makes the value.
+    let (begun, is_begun) = mpsc::channel();
+    let (go_on, may_go_on) = mpsc::channel::<()>();
+    let maker = (Arc::clone(&cache), counter.clone());
+    let first = ends(move || {
+        let (cache, counter) = maker;
+        let made = cache.get_or_init_with(&7, |_| {
+            let _ = begun.send(());
+            let _ = may_go_on.recv();
+            (counter.make(1), 0)
+        });
+        made.err()
+    });
+    assert!(is_begun.recv().is_ok());
+    let others = [2, 3].map(|number| {
+        let (cache, counter) = (Arc::clone(&cache), counter.clone());
+        ends(move || {
+            let made = cache.get_or_init_with(&7, |_| (counter.make(number), number))?;
+            Ok::<_, Refusal>(made.1)
+        })
+    });
+    pause();
+    assert!(go_on.send(()).is_ok());
+    assert_eq!(first.join(), Some(Refusal::ZeroCharge));
+    let [one, other] = others.map(Pending::join);
+    let number = one?;
+    assert_eq!(other, Ok(number));
+    assert_eq!((cache.len(), counter.dropped()), (1, 2));
+    assert_eq!(cache.total_charge(), number.into());
+    Ok(())
+}
+
+#[test]
 fn one_thread_makes_a_value_and_the_others_wait() -> Result<(), Refusal> {
     let cache = Arc::new(Cache::<u64, u64>::new(1000)?);
     let made = Arc::new(AtomicU64::new(0));
@@ -445,6 +515,14 @@ fn a_value_whose_key_was_invalidated_is_for_its_maker_alone() -> Result<(), Refu
     assert_eq!((made.1, cache.len(), visited), (1, 1, 0));
     drop(made);
     assert_eq!((cache.len(), counter.dropped()), (0, 1));
+    let made = cache.get_or_init_with(&1, |_| {
+        let charge = cache.clear().map_or(0, |()| 2);
+        (counter.make(1), charge)
+    })?;
+    assert!(cache.get(&1)?.is_none());
+    assert_eq!((made.1, cache.total_charge()), (1, 2));
+    drop(made);
+    assert_eq!((cache.len(), counter.dropped()), (0, 2));
     // The same, where the key has another value by then.
     let made = cache.get_or_try_init(&1, 1, |_| {
         cache.insert(&1, 1, counter.make(2))?;
@@ -453,7 +531,7 @@ fn a_value_whose_key_was_invalidated_is_for_its_maker_alone() -> Result<(), Refu
     let made = made.map_err(|_| Refusal::Memory)?;
     assert_eq!((made.1, cache.get(&1)?.map(|found| found.1)), (3, Some(2)));
     drop(made);
-    assert_eq!((cache.len(), counter.dropped()), (1, 2));
+    assert_eq!((cache.len(), counter.dropped()), (1, 3));
     Ok(())
 }
 
@@ -817,7 +895,10 @@ fn stress(
                     found.check(key);
                 }
             }
-            32..44 => cache.get_or_init(&key, 1 + key % 3, make)?.check(key),
+            32..38 => cache.get_or_init(&key, 1 + key % 3, make)?.check(key),
+            38..44 => cache
+                .get_or_init_with(&key, |key| (make(key), 1 + key % 3))?
+                .check(key),
             44 => {
                 let failed = cache.get_or_try_init(&key, 1, |_| Err(()));
                 assert!(failed.is_err() || failed.is_ok_and(|found| found.key == key));
