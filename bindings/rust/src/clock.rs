@@ -17,8 +17,9 @@
 //!   lock while they call back. `for_each` does not tell how many handles a value has, and may be
 //!   refused.
 //! - [`contains`](Cache::contains) counts as a use.
-//! - It has no strict limit, listener, counts of hits and misses, makers, tasks, room that is
-//!   reserved, `advice_evict` and `release_and_evict`.
+//! - [`Maker::ready`] may be refused.
+//! - It has no strict limit, listener, counts of hits and misses, tasks, room that is reserved,
+//!   `advice_evict` and `release_and_evict`.
 //!
 //! A cache has a reader of each shard for each thread that calls it, in 64 bytes for four shards.
 //! When a thread ends, its readers are left for another one. They are freed with the cache.
@@ -289,7 +290,7 @@ impl<K: WordsKey + ?Sized, V> Cache<K, V> {
         K: Borrow<Q>,
         Q: WordsKey<Form = K::Form> + ?Sized,
     {
-        match self.begin(self.route(key), charge)? {
+        match self.begin(key, charge)? {
             Begun::Hit(handle) => Ok(handle),
             Begun::Make(maker) => Ok(maker.ready(init(key).map_err(GetError::Init)?)?),
         }
@@ -376,12 +377,87 @@ impl<K: WordsKey + ?Sized, V> Cache<K, V> {
         K: Borrow<Q>,
         Q: WordsKey<Form = K::Form> + ?Sized,
     {
-        match self.begin(self.route(key), UNKNOWN_CHARGE)? {
+        match self.begin(key, UNKNOWN_CHARGE)? {
             Begun::Hit(handle) => Ok(handle),
             Begun::Make(maker) => {
                 let (value, charge) = init(key).map_err(GetError::Init)?;
                 Ok(maker.ready_with(value, charge)?)
             }
+        }
+    }
+
+    /// Returns a handle of the key's value, or a guard with which the caller makes it.
+    ///
+    /// This is [`get_or_init`](Self::get_or_init) for a caller that does not make the value by a
+    /// function. Other callers that ask for the key wait until it calls [`Maker::ready`], or drops
+    /// the guard: one of them makes the value then. If the charge is not known yet, pass 1, and
+    /// call [`Maker::ready_with`] later.
+    ///
+    /// # Errors
+    ///
+    /// As [`get_or_init`](Self::get_or_init).
+    ///
+    /// # Examples
+    ///
+    /// ```
+    /// use concurrent_lru_proved::Begun;
+    /// use concurrent_lru_proved::clock::Cache;
+    ///
+    /// # fn main() -> Result<(), concurrent_lru_proved::Refusal> {
+    /// let cache = Cache::<u64, String>::new(10)?;
+    /// let handle = match cache.begin(&7, 1)? {
+    ///     Begun::Hit(handle) => handle,
+    ///     Begun::Make(maker) => maker.ready("seven".to_string())?,
+    /// };
+    /// assert_eq!(*handle, "seven");
+    /// # Ok(())
+    /// # }
+    /// ```
+    #[inline]
+    pub fn begin<Q>(&self, key: &Q, charge: u64) -> Result<Begun<'_, K, V>, Refusal>
+    where
+        K: Borrow<Q>,
+        Q: WordsKey<Form = K::Form> + ?Sized,
+    {
+        if charge == 0 {
+            return Err(Refusal::ZeroCharge);
+        }
+        let route = self.route(key);
+        match self.look(route) {
+            Ok(pin) => Ok(Begun::Hit(self.handle(route.shard, pin))),
+            Err(code) => self.begin_locked(code, route, charge),
+        }
+    }
+
+    /// Returns what [`begin`](Self::begin) returns, or `None` if another caller makes the value.
+    /// Does not wait for it.
+    ///
+    /// # Errors
+    ///
+    /// As [`get_or_init`](Self::get_or_init).
+    ///
+    /// # Examples
+    ///
+    /// ```
+    /// use concurrent_lru_proved::Begun;
+    /// use concurrent_lru_proved::clock::Cache;
+    ///
+    /// # fn main() -> Result<(), concurrent_lru_proved::Refusal> {
+    /// let cache = Cache::<u64, String>::new(10)?;
+    /// let making = cache.try_begin(&7, 1)?;
+    /// assert!(matches!(making, Some(Begun::Make(_))));
+    /// assert!(cache.try_begin(&7, 1)?.is_none());
+    /// # Ok(())
+    /// # }
+    /// ```
+    pub fn try_begin<Q>(&self, key: &Q, charge: u64) -> Result<Option<Begun<'_, K, V>>, Refusal>
+    where
+        K: Borrow<Q>,
+        Q: WordsKey<Form = K::Form> + ?Sized,
+    {
+        match self.ask(self.route(key), charge)? {
+            Answer::Begun(begun) => Ok(Some(begun)),
+            Answer::Wait(..) => Ok(None),
         }
     }
 
@@ -760,39 +836,65 @@ impl<K: WordsKey + ?Sized, V> Cache<K, V> {
         Ok(found.map(|pin| self.handle(route.shard, pin)))
     }
 
-    /// Pins the value of a key, or begins to make it. Waits while another caller makes it.
-    #[inline]
-    fn begin(&self, route: Route, charge: u64) -> Result<Begun<'_, K, V>, Refusal> {
+    /// Begins with the lock, after a look without it was told this code.
+    #[cold]
+    fn begin_locked(
+        &self,
+        code: u32,
+        route: Route,
+        charge: u64,
+    ) -> Result<Begun<'_, K, V>, Refusal> {
+        match self.ask_again(self.lock_after(code, route.shard), route, charge)? {
+            Answer::Begun(begun) => Ok(begun),
+            Answer::Wait(state, ticket) => self.sleep(state, ticket, route, charge),
+        }
+    }
+
+    /// Pins the value of a key, or begins to make it, or tells that another caller makes it.
+    fn ask(&self, route: Route, charge: u64) -> Result<Answer<'_, K, V>, Refusal> {
         if charge == 0 {
             return Err(Refusal::ZeroCharge);
         }
         match self.look(route) {
-            Ok(pin) => Ok(Begun::Hit(self.handle(route.shard, pin))),
-            Err(code) => self.begin_locked(route, charge, code),
+            Ok(pin) => Ok(Answer::Begun(Begun::Hit(self.handle(route.shard, pin)))),
+            Err(code) => self.ask_again(self.lock_after(code, route.shard), route, charge),
         }
     }
 
-    #[cold]
-    fn begin_locked(
-        &self,
+    /// Asks with the lock.
+    fn ask_again<'a>(
+        &'a self,
+        mut state: MutexGuard<'a, State<V>>,
         route: Route,
         charge: u64,
-        code: u32,
-    ) -> Result<Begun<'_, K, V>, Refusal> {
-        let mut state = self.lock_after(code, route.shard);
+    ) -> Result<Answer<'a, K, V>, Refusal> {
+        Ok(match state.begin(route, charge)? {
+            Turn::Hit(pin) => Answer::Begun(Begun::Hit(self.handle(route.shard, pin))),
+            Turn::Make(ticket) => Answer::Begun(Begun::Make(Maker {
+                cache: self,
+                route,
+                charge,
+                ticket,
+            })),
+            Turn::Wait(ticket) => Answer::Wait(state, ticket),
+        })
+    }
+
+    /// Blocks the thread until the making with this ticket has ended, and asks again, until this
+    /// caller gets the value or makes it.
+    fn sleep<'a>(
+        &'a self,
+        mut state: MutexGuard<'a, State<V>>,
+        mut ticket: u64,
+        route: Route,
+        charge: u64,
+    ) -> Result<Begun<'a, K, V>, Refusal> {
         loop {
-            match state.begin(route, charge)? {
-                Turn::Hit(pin) => return Ok(Begun::Hit(self.handle(route.shard, pin))),
-                Turn::Make(ticket) => {
-                    return Ok(Begun::Make(Maker {
-                        cache: self,
-                        route,
-                        charge,
-                        ticket,
-                    }));
-                }
-                Turn::Wait(ticket) => state = self.shards[route.shard].wait(state, ticket),
-            }
+            state = self.shards[route.shard].wait(state, ticket);
+            (state, ticket) = match self.ask_again(state, route, charge)? {
+                Answer::Begun(begun) => return Ok(begun),
+                Answer::Wait(state, ticket) => (state, ticket),
+            };
         }
     }
 
@@ -889,10 +991,24 @@ pub struct EntryRef<'a, V> {
     pub charge: u64,
 }
 
-type Begun<'a, K, V> = makings::Begun<CacheHandle<'a, K, V>, Maker<'a, K, V>>;
+/// What a caller that asks for a value gets.
+pub type Begun<'a, K, V> = makings::Begun<CacheHandle<'a, K, V>, Maker<'a, K, V>>;
 
-/// The duty to make a value. If it is dropped, the making has failed.
-struct Maker<'a, K: WordsKey + ?Sized, V> {
+/// What a caller that asked for a key has got.
+enum Answer<'a, K: WordsKey + ?Sized, V> {
+    Begun(Begun<'a, K, V>),
+    /// Another caller makes the value, with this ticket. The lock is still held.
+    Wait(MutexGuard<'a, State<V>>, u64),
+}
+
+/// The duty to make a value, while other callers that ask for its key wait.
+///
+/// If it is dropped, the making has failed, as if `init` of
+/// [`get_or_try_init`](Cache::get_or_try_init) had: the cache keeps no entry, and one of those that
+/// wait makes the value. If it is forgotten, they wait until the key is invalidated or gets another
+/// value.
+#[must_use = "the making fails if this is dropped"]
+pub struct Maker<'a, K: WordsKey + ?Sized, V> {
     cache: &'a Cache<K, V>,
     route: Route,
     charge: u64,
@@ -900,14 +1016,45 @@ struct Maker<'a, K: WordsKey + ?Sized, V> {
 }
 
 impl<'a, K: WordsKey + ?Sized, V> Maker<'a, K, V> {
-    /// Stores the value, and wakes those that wait for it.
-    fn ready(self, value: V) -> Result<CacheHandle<'a, K, V>, Refusal> {
+    /// Makes `value` the value, which those that wait get too, and returns a handle of it. If the
+    /// key was invalidated or got another value meanwhile, only this caller gets the value.
+    ///
+    /// # Errors
+    ///
+    /// [`Refusal::Overflow`] if the total of the charges of the shard would exceed `u64::MAX`.
+    /// [`Refusal::Memory`] if there is no memory for a new entry. The making has failed then, and
+    /// the value is dropped. Others may have been evicted for it.
+    pub fn ready(self, value: V) -> Result<CacheHandle<'a, K, V>, Refusal> {
         let charge = self.charge;
         self.ready_with(value, charge)
     }
 
-    /// Stores the value with this charge, and wakes those that wait for it.
-    fn ready_with(self, value: V, charge: u64) -> Result<CacheHandle<'a, K, V>, Refusal> {
+    /// Makes `value` the value, as [`ready`](Self::ready) does, with this charge in place of that
+    /// with which the making was begun.
+    ///
+    /// # Errors
+    ///
+    /// [`Refusal::ZeroCharge`] if `charge` is 0: the making has failed then, and the value is
+    /// dropped. Otherwise as [`ready`](Self::ready).
+    ///
+    /// # Examples
+    ///
+    /// ```
+    /// use concurrent_lru_proved::Begun;
+    /// use concurrent_lru_proved::clock::Cache;
+    ///
+    /// # fn main() -> Result<(), concurrent_lru_proved::Refusal> {
+    /// let cache = Cache::<u64, Vec<u8>>::new(1000)?;
+    /// if let Begun::Make(maker) = cache.begin(&7, 1)? {
+    ///     let bytes = vec![0; 100];
+    ///     let charge = bytes.len() as u64;
+    ///     maker.ready_with(bytes, charge)?;
+    /// }
+    /// assert_eq!(cache.total_charge(), 100);
+    /// # Ok(())
+    /// # }
+    /// ```
+    pub fn ready_with(self, value: V, charge: u64) -> Result<CacheHandle<'a, K, V>, Refusal> {
         if charge == 0 {
             // The making ends before the value is dropped, which may take long.
             drop(self);
@@ -925,6 +1072,12 @@ impl<'a, K: WordsKey + ?Sized, V> Maker<'a, K, V> {
         // As in `insert`.
         drop(left);
         Ok(handle)
+    }
+}
+
+impl<K: WordsKey + ?Sized, V> fmt::Debug for Maker<'_, K, V> {
+    fn fmt(&self, f: &mut fmt::Formatter<'_>) -> fmt::Result {
+        f.debug_struct("Maker").finish_non_exhaustive()
     }
 }
 

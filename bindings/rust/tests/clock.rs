@@ -10,7 +10,7 @@ use std::sync::{Arc, Barrier};
 use std::thread;
 use std::time::Duration;
 
-use concurrent_lru_proved::clock::{Cache, CacheHandle, OwnedHandle};
+use concurrent_lru_proved::clock::{Begun, Cache, CacheHandle, Maker, OwnedHandle};
 use concurrent_lru_proved::key::{Key, Words};
 use concurrent_lru_proved::{GetError, Refusal};
 
@@ -69,6 +69,7 @@ fn threads_may_share_and_send_everything() {
     is_shared::<Cache<u64, String>>();
     is_shared::<CacheHandle<'static, u64, String>>();
     is_shared::<OwnedHandle<u64, String>>();
+    is_shared::<Maker<'static, u64, String>>();
 }
 
 #[test]
@@ -896,9 +897,17 @@ fn stress(
                 }
             }
             32..38 => cache.get_or_init(&key, 1 + key % 3, make)?.check(key),
-            38..44 => cache
+            38..42 => cache
                 .get_or_init_with(&key, |key| (make(key), 1 + key % 3))?
                 .check(key),
+            42..44 => match cache.try_begin(&key, 1)? {
+                Some(Begun::Hit(found)) => found.check(key),
+                Some(Begun::Make(_)) if key % 5 == 0 => {}
+                Some(Begun::Make(maker)) => {
+                    maker.ready_with(make(&key), 1 + key % 4)?.check(key);
+                }
+                None => {}
+            },
             44 => {
                 let failed = cache.get_or_try_init(&key, 1, |_| Err(()));
                 assert!(failed.is_err() || failed.is_ok_and(|found| found.key == key));

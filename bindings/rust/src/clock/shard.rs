@@ -182,6 +182,7 @@ impl<V> Shard<V> {
             clock: Handle::CLOSED,
             reader: Handle::CLOSED,
             makings: Vec::new(),
+            detached: Vec::new(),
             nodes: PhantomData,
         };
         // SAFETY: the clock is closed, and there is no other copy of it.
@@ -232,6 +233,9 @@ pub(super) struct State<V> {
     /// A reader for whoever has the lock.
     reader: Handle,
     makings: Vec<Making>,
+    /// The tickets of those whose keys were invalidated or got another value meanwhile. It has room
+    /// for those of `makings` too.
+    detached: Vec<u64>,
     nodes: PhantomData<Box<Node<V>>>,
 }
 
@@ -280,6 +284,7 @@ impl<V> State<V> {
     /// Finds the value of a key, or begins to make it.
     pub(super) fn begin(&mut self, route: Route, charge: u64) -> Result<Turn<V>, Refusal> {
         error::room(self.makings.try_reserve(1))?;
+        error::room(self.detached.try_reserve(self.makings.len() + 1))?;
         let [first, second] = route.key;
         // SAFETY: this state has the only copy of the handle.
         let found =
@@ -323,7 +328,7 @@ impl<V> State<V> {
         left: &mut Left<V>,
     ) -> (Result<Pin<V>, Refusal>, Option<Making>) {
         self.make_room(node.charge, left);
-        let ended = self.end(|making| making.ticket == ticket);
+        let ended = self.end(ticket);
         if ended.is_none() {
             // The key was invalidated or got another value meanwhile.
             node.unlist();
@@ -340,7 +345,7 @@ impl<V> State<V> {
         // SAFETY: this state has the only copy of the handle.
         let code = unsafe { ffi::lru_clock_fail(&mut self.clock, ticket) };
         debug_assert_eq!(code, ffi::DONE);
-        self.end(|making| making.ticket == ticket)
+        self.end(ticket)
     }
 
     /// Invalidates a key, and stores a value for it, which is pinned. Also returns the making that
@@ -403,13 +408,28 @@ impl<V> State<V> {
         if let Some(pin) = found {
             self.unpin(pin.place, left);
         }
-        self.end(|making| making.route.key == route.key)
+        let mut makings = self.makings.iter();
+        let place = makings.position(|making| making.route.key == route.key)?;
+        let making = self.makings.swap_remove(place);
+        self.detached.push(making.ticket);
+        Some(making)
     }
 
-    /// Removes a making from the list.
-    fn end(&mut self, is_it: impl FnMut(&Making) -> bool) -> Option<Making> {
-        let place = self.makings.iter().position(is_it)?;
-        Some(self.makings.swap_remove(place))
+    /// Removes the making with a ticket. Returns it, unless its key was invalidated or got another
+    /// value meanwhile.
+    fn end(&mut self, ticket: u64) -> Option<Making> {
+        let mut makings = self.makings.iter();
+        if let Some(place) = makings.position(|making| making.ticket == ticket) {
+            return Some(self.makings.swap_remove(place));
+        }
+        self.detached.retain(|detached| *detached != ticket);
+        None
+    }
+
+    /// The ticket of a making.
+    fn any_ticket(&self) -> Option<u64> {
+        let making = self.makings.last().map(|making| making.ticket);
+        making.or(self.detached.last().copied())
     }
 
     /// Evicts entries until a charge has room, or all that are left are pinned.
@@ -442,6 +462,7 @@ impl<V> State<V> {
         let ended = mem::take(&mut self.makings);
         for making in &ended {
             self.erase(making.route, left);
+            self.detached.push(making.ticket);
         }
         for place in 0..self.places() {
             let pin: Pin<V> = match told(self.pin_at(place)) {
@@ -508,14 +529,19 @@ impl<V> Drop for State<V> {
         self.prune(&mut left);
         // SAFETY: this state has the only copy of the handle.
         if unsafe { ffi::lru_clock_free(&mut self.clock) } == ffi::NOT_EMPTY {
-            // The pins that are left are those of handles that were forgotten.
+            // The pins that are left are those of handles that were forgotten, and the makings
+            // those of guards that were.
             for place in 0..self.places() {
                 // SAFETY: this state has the only copy of the handle.
                 while unsafe { ffi::lru_reader_unpin(&mut self.reader, place) } == ffi::DONE {}
             }
             self.prune(&mut left);
+            while let Some(ticket) = self.any_ticket() {
+                self.fail(ticket);
+            }
             // SAFETY: this state has the only copy of the handle.
-            unsafe { ffi::lru_clock_free(&mut self.clock) };
+            let code = unsafe { ffi::lru_clock_free(&mut self.clock) };
+            debug_assert_eq!(code, ffi::DONE);
         }
         // SAFETY: this state has the only copy of the handle.
         unsafe { ffi::lru_reader_free(&mut self.reader) };
