@@ -18,7 +18,7 @@
 //!   refused.
 //! - [`contains`](Cache::contains) counts as a use.
 //! - [`Maker::ready`] may be refused.
-//! - It has no strict limit, listener, counts of hits and misses, tasks, room that is reserved,
+//! - It has no strict limit, listener, counts of hits and misses, room that is reserved,
 //!   `advice_evict` and `release_and_evict`.
 //!
 //! A cache has a reader of each shard for each thread that calls it, in 64 bytes for four shards.
@@ -54,11 +54,13 @@ mod shard;
 use std::borrow::Borrow;
 use std::convert::Infallible;
 use std::fmt;
+use std::future;
 use std::marker::PhantomData;
 use std::mem::ManuallyDrop;
 use std::num::NonZeroUsize;
 use std::ops::Deref;
 use std::sync::{Arc, MutexGuard};
+use std::task::{Context, Poll};
 
 use crate::error::{self, GetError, Refusal};
 use crate::ffi;
@@ -461,6 +463,94 @@ impl<K: WordsKey + ?Sized, V> Cache<K, V> {
         }
     }
 
+    /// Returns what [`begin`](Self::begin) returns, without blocking the thread meanwhile.
+    ///
+    /// It needs no particular runtime. Tasks and threads may wait for the same value. If the future
+    /// is dropped while it waits, the caller waits no more.
+    ///
+    /// # Errors
+    ///
+    /// As [`get_or_init`](Self::get_or_init), and [`Refusal::Memory`] if there is no memory for the
+    /// list of the tasks that wait.
+    pub async fn begin_async<Q>(&self, key: &Q, charge: u64) -> Result<Begun<'_, K, V>, Refusal>
+    where
+        K: Borrow<Q>,
+        Q: WordsKey<Form = K::Form> + ?Sized,
+    {
+        let route = self.route(key);
+        let mut waiter = match self.ask(route, charge)? {
+            Answer::Begun(begun) => return Ok(begun),
+            Answer::Wait(_, ticket) => Waiter::new(self, route, charge, ticket),
+        };
+        future::poll_fn(|context| waiter.poll(context)).await
+    }
+
+    /// Returns what [`get_or_init`](Self::get_or_init) returns, without blocking the thread
+    /// meanwhile. If the key has no value, `init` makes it, and is else dropped without a poll.
+    ///
+    /// If the future that this returns is dropped while `init` runs, or if `init` panics, another
+    /// caller that waits makes the value, with its own `init`. It is [`Send`] if `init`, keys and
+    /// values may be sent and shared.
+    ///
+    /// # Errors
+    ///
+    /// As [`begin_async`](Self::begin_async).
+    ///
+    /// # Examples
+    ///
+    /// ```
+    /// use concurrent_lru_proved::Refusal;
+    /// use concurrent_lru_proved::clock::Cache;
+    ///
+    /// async fn length(cache: &Cache<u64, String>, number: u64) -> Result<usize, Refusal> {
+    ///     let page = cache.get_or_init_async(&number, 1, fetch(number)).await?;
+    ///     Ok(page.len())
+    /// }
+    ///
+    /// async fn fetch(number: u64) -> String {
+    ///     // ...
+    /// #   number.to_string()
+    /// }
+    /// ```
+    pub async fn get_or_init_async<Q>(
+        &self,
+        key: &Q,
+        charge: u64,
+        init: impl Future<Output = V>,
+    ) -> Result<CacheHandle<'_, K, V>, Refusal>
+    where
+        K: Borrow<Q>,
+        Q: WordsKey<Form = K::Form> + ?Sized,
+    {
+        match self.begin_async(key, charge).await? {
+            Begun::Hit(handle) => Ok(handle),
+            Begun::Make(maker) => maker.ready(init.await),
+        }
+    }
+
+    /// Returns what [`get_or_try_init`](Self::get_or_try_init) returns, without blocking the thread
+    /// meanwhile, as [`get_or_init_async`](Self::get_or_init_async) does.
+    ///
+    /// # Errors
+    ///
+    /// [`GetError::Init`] with the error of `init`, and [`GetError::Refused`] in the cases of
+    /// [`begin_async`](Self::begin_async).
+    pub async fn get_or_try_init_async<Q, E>(
+        &self,
+        key: &Q,
+        charge: u64,
+        init: impl Future<Output = Result<V, E>>,
+    ) -> Result<CacheHandle<'_, K, V>, GetError<E>>
+    where
+        K: Borrow<Q>,
+        Q: WordsKey<Form = K::Form> + ?Sized,
+    {
+        match self.begin_async(key, charge).await? {
+            Begun::Hit(handle) => Ok(handle),
+            Begun::Make(maker) => Ok(maker.ready(init.await.map_err(GetError::Init)?)?),
+        }
+    }
+
     /// Returns what [`get`](Self::get) returns, with a handle that borrows nothing and keeps the
     /// cache alive.
     ///
@@ -529,6 +619,46 @@ impl<K: WordsKey + ?Sized, V> Cache<K, V> {
         Q: WordsKey<Form = K::Form> + ?Sized,
     {
         let handle = self.get_or_try_init(key, charge, init)?;
+        Ok(OwnedHandle::of(self, handle))
+    }
+
+    /// Returns what [`get_or_init_async`](Self::get_or_init_async) returns, with a handle that
+    /// borrows nothing and keeps the cache alive.
+    ///
+    /// # Errors
+    ///
+    /// As [`begin_async`](Self::begin_async).
+    pub async fn get_or_init_owned_async<Q>(
+        self: &Arc<Self>,
+        key: &Q,
+        charge: u64,
+        init: impl Future<Output = V>,
+    ) -> Result<OwnedHandle<K, V>, Refusal>
+    where
+        K: Borrow<Q>,
+        Q: WordsKey<Form = K::Form> + ?Sized,
+    {
+        let handle = self.get_or_init_async(key, charge, init).await?;
+        Ok(OwnedHandle::of(self, handle))
+    }
+
+    /// Returns what [`get_or_try_init_async`](Self::get_or_try_init_async) returns, with a handle
+    /// that borrows nothing and keeps the cache alive.
+    ///
+    /// # Errors
+    ///
+    /// As [`get_or_try_init_async`](Self::get_or_try_init_async).
+    pub async fn get_or_try_init_owned_async<Q, E>(
+        self: &Arc<Self>,
+        key: &Q,
+        charge: u64,
+        init: impl Future<Output = Result<V, E>>,
+    ) -> Result<OwnedHandle<K, V>, GetError<E>>
+    where
+        K: Borrow<Q>,
+        Q: WordsKey<Form = K::Form> + ?Sized,
+    {
+        let handle = self.get_or_try_init_async(key, charge, init).await?;
         Ok(OwnedHandle::of(self, handle))
     }
 
@@ -1087,6 +1217,63 @@ impl<K: WordsKey + ?Sized, V> Drop for Maker<'_, K, V> {
         let mut state = shard.lock();
         let ended = state.fail(self.ticket);
         shard.unlock(state, ended);
+    }
+}
+
+/// A task that waits for a value. If it is dropped, it waits no more.
+struct Waiter<'a, K: WordsKey + ?Sized, V> {
+    cache: &'a Cache<K, V>,
+    route: Route,
+    charge: u64,
+    /// The ticket of the making that it waits for.
+    making: u64,
+    /// By which the list of those that wait for that making finds its waker.
+    ticket: Option<u64>,
+}
+
+impl<'a, K: WordsKey + ?Sized, V> Waiter<'a, K, V> {
+    fn new(cache: &'a Cache<K, V>, route: Route, charge: u64, making: u64) -> Self {
+        Waiter {
+            cache,
+            route,
+            charge,
+            making,
+            ticket: None,
+        }
+    }
+
+    /// Asks again if the making has ended. Otherwise has the task woken when it ends.
+    fn poll(&mut self, context: &mut Context<'_>) -> Poll<Result<Begun<'a, K, V>, Refusal>> {
+        // A waker runs code of its task when it is cloned or dropped, which may call the cache.
+        let mut waker = Some(context.waker().clone());
+        let cache = self.cache;
+        let mut state = cache.shards[self.route.shard].lock();
+        if state.wait_list(self.making).is_none() {
+            self.ticket = None;
+            (state, self.making) = match cache.ask_again(state, self.route, self.charge)? {
+                Answer::Begun(begun) => return Poll::Ready(Ok(begun)),
+                Answer::Wait(state, making) => (state, making),
+            };
+        }
+        if let Some(list) = state.wait_list(self.making) {
+            list.add_task(&mut self.ticket, &mut waker)?;
+        }
+        Poll::Pending
+    }
+}
+
+impl<K: WordsKey + ?Sized, V> Drop for Waiter<'_, K, V> {
+    fn drop(&mut self) {
+        let Some(ticket) = self.ticket else {
+            return;
+        };
+        // When a making ends, all that wait for it are woken. So if this one was, it need not wake
+        // another.
+        let mut state = self.cache.shards[self.route.shard].lock();
+        let list = state.wait_list(self.making);
+        let waker = list.and_then(|list| list.remove_task(ticket));
+        drop(state);
+        drop(waker);
     }
 }
 

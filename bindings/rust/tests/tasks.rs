@@ -1,85 +1,22 @@
-//! Tests of the calls for tasks, with an executor that is as plain as possible.
+//! Tests of the calls for tasks.
 
-use std::collections::VecDeque;
+mod executor;
+
 use std::future;
 use std::panic::{self, AssertUnwindSafe};
-use std::pin::{Pin, pin};
-use std::sync::atomic::{AtomicBool, AtomicUsize, Ordering::SeqCst};
+use std::pin::pin;
+use std::sync::atomic::{AtomicUsize, Ordering::SeqCst};
 use std::sync::{Arc, Mutex};
-use std::task::{Context, Poll, Wake, Waker};
-use std::thread::{self, Thread};
+use std::task::{Poll, Wake, Waker};
+use std::thread;
 use std::time::Duration;
 
 use concurrent_lru_proved::unsharded::{Begun, LruCache};
-use concurrent_lru_proved::{GetError, Refusal, sharded};
+use concurrent_lru_proved::{GetError, Refusal, clock, sharded};
+
+use executor::{Task, block_on, counting, pause, poll, run};
 
 type Cache = LruCache<u64, u64>;
-
-/// Wakes a task of a thread.
-struct TaskOf {
-    thread: Thread,
-    is_woken: AtomicBool,
-}
-
-impl Wake for TaskOf {
-    fn wake(self: Arc<Self>) {
-        self.is_woken.store(true, SeqCst);
-        self.thread.unpark();
-    }
-}
-
-type Task<'a> = Pin<Box<dyn Future<Output = ()> + 'a>>;
-
-/// Runs tasks on this thread until all have ended.
-fn run(tasks: Vec<Task<'_>>) {
-    let mut tasks: VecDeque<_> = tasks
-        .into_iter()
-        .map(|task| {
-            let thread = thread::current();
-            let is_woken = AtomicBool::new(true);
-            (task, Arc::new(TaskOf { thread, is_woken }))
-        })
-        .collect();
-    while !tasks.is_empty() {
-        let mut has_run = false;
-        for _ in 0..tasks.len() {
-            let (mut task, waker) = tasks.pop_front().unwrap();
-            if waker.is_woken.swap(false, SeqCst) {
-                has_run = true;
-                let waker = Waker::from(Arc::clone(&waker));
-                if task
-                    .as_mut()
-                    .poll(&mut Context::from_waker(&waker))
-                    .is_ready()
-                {
-                    continue;
-                }
-            }
-            tasks.push_back((task, waker));
-        }
-        if !has_run {
-            thread::park();
-        }
-    }
-}
-
-fn block_on<T>(task: impl Future<Output = T>) -> T {
-    let mut result = None;
-    run(vec![Box::pin(async { result = Some(task.await) })]);
-    result.unwrap()
-}
-
-/// Is polled so many times before it is ready.
-fn pause(mut times: usize) -> impl Future<Output = ()> {
-    future::poll_fn(move |context| {
-        if times == 0 {
-            return Poll::Ready(());
-        }
-        times -= 1;
-        context.waker().wake_by_ref();
-        Poll::Pending
-    })
-}
 
 /// Drops a future that is pending after so many polls, and returns `None`.
 async fn at_most<T>(polls: usize, task: impl Future<Output = T>) -> Option<T> {
@@ -97,27 +34,6 @@ async fn at_most<T>(polls: usize, task: impl Future<Output = T>) -> Option<T> {
         Poll::Pending
     })
     .await
-}
-
-/// Counts how often it wakes.
-#[derive(Default)]
-struct Count {
-    woken: AtomicUsize,
-}
-
-impl Wake for Count {
-    fn wake(self: Arc<Self>) {
-        self.woken.fetch_add(1, SeqCst);
-    }
-}
-
-fn counting() -> (Arc<Count>, Waker) {
-    let count = Arc::new(Count::default());
-    (Arc::clone(&count), Waker::from(count))
-}
-
-fn poll<F: Future>(task: Pin<&mut F>, waker: &Waker) -> Poll<F::Output> {
-    task.poll(&mut Context::from_waker(waker))
 }
 
 fn sends<T: Send>(task: T) -> T {
@@ -144,8 +60,18 @@ fn tasks_can_be_sent() {
         drop(sends(cache.get_or_init_owned_async("a", 1, init())));
         drop(sends(cache.get_or_try_init_owned_async("a", 1, may_fail())));
     }
+    fn clock(cache: &Arc<clock::Cache<u64, String>>) {
+        let init = || async { String::new() };
+        let may_fail = || async { Ok::<_, ()>(String::new()) };
+        drop(sends(cache.begin_async(&7, 1)));
+        drop(sends(cache.get_or_init_async(&7, 1, init())));
+        drop(sends(cache.get_or_try_init_async(&7, 1, may_fail())));
+        drop(sends(cache.get_or_init_owned_async(&7, 1, init())));
+        drop(sends(cache.get_or_try_init_owned_async(&7, 1, may_fail())));
+    }
     unsharded(&Arc::new(LruCache::new(10).unwrap()));
     sharded(&Arc::new(sharded::LruCache::new(10).unwrap()));
+    clock(&Arc::new(clock::Cache::new(10).unwrap()));
 }
 
 #[test]
@@ -458,9 +384,10 @@ impl Drop for Counted {
 }
 
 /// Tasks on several threads, and threads that block, ask for few keys. Futures pause, fail, panic
-/// or are dropped after some polls.
+/// or are dropped after some polls. `$evict` evicts the value of a key if it is idle, and `$at_end`
+/// is called when no value has a handle.
 macro_rules! random_tasks {
-    ($name:ident, $cache:expr) => {
+    ($name:ident, $cache:expr, $evict:expr, $at_end:expr) => {
         #[test]
         fn $name() -> Result<(), Refusal> {
             const KEYS: u64 = 6;
@@ -507,7 +434,7 @@ macro_rules! random_tasks {
                         }
                     }
                     if draw % 11 == 0 {
-                        cache.advice_evict(&key).unwrap();
+                        $evict(&*cache, key);
                     }
                 }
             };
@@ -535,6 +462,7 @@ macro_rules! random_tasks {
             });
             assert_eq!(cache.pinned_charge(), 0);
             assert_eq!(cache.len(), alive.load(SeqCst) as u64);
+            $at_end(&*cache);
             assert!(u128::from(cache.total_charge()) <= u128::from(cache.capacity()));
             cache.prune();
             assert_eq!((cache.len(), alive.load(SeqCst)), (0, 0));
@@ -545,9 +473,20 @@ macro_rules! random_tasks {
 
 random_tasks!(
     random_tasks_share_a_cache,
-    LruCache::<u64, Counted>::new(3)?
+    LruCache::<u64, Counted>::new(3)?,
+    |cache: &LruCache<u64, Counted>, key| cache.advice_evict(&key).unwrap(),
+    |_| {}
 );
 random_tasks!(
     random_tasks_share_shards,
-    sharded::LruCache::<u64, Counted>::with_shards(3, std::num::NonZeroUsize::new(2).unwrap())?
+    sharded::LruCache::<u64, Counted>::with_shards(3, std::num::NonZeroUsize::new(2).unwrap())?,
+    |cache: &sharded::LruCache<u64, Counted>, key| cache.advice_evict(&key).unwrap(),
+    |_| {}
+);
+// The end of a handle evicts nothing from a clock.
+random_tasks!(
+    random_tasks_share_a_clock,
+    clock::Cache::<u64, Counted>::with_shards(3, std::num::NonZeroUsize::new(2).unwrap())?,
+    |cache: &clock::Cache<u64, Counted>, _| cache.prune(),
+    |cache: &clock::Cache<u64, Counted>| cache.set_capacity(3)
 );

@@ -547,3 +547,57 @@ impl<V> Drop for State<V> {
         unsafe { ffi::lru_reader_free(&mut self.reader) };
     }
 }
+
+#[cfg(test)]
+mod tests {
+    use std::num::NonZeroUsize;
+    use std::panic::{self, AssertUnwindSafe};
+    use std::sync::atomic::{AtomicBool, Ordering};
+    use std::thread;
+    use std::time::Duration;
+
+    use crate::clock::{Begun, Cache};
+    use crate::error::Refusal;
+    use crate::unsharded::unpoisoned;
+
+    #[test]
+    fn a_making_that_nobody_waits_for_wakes_nobody() -> Result<(), Refusal> {
+        let cache = Cache::<u64, u64>::with_shards(10, NonZeroUsize::MIN)?;
+        let is_over = AtomicBool::new(false);
+        let makings = || {
+            for key in 0..20 {
+                drop(cache.get_or_init(&key, 1, |_| 1)?);
+                drop(cache.get_or_try_init(&(100 + key), 1, |_| Err(())));
+                drop(cache.begin(&(200 + key), 1)?);
+                if let Begun::Make(making) = cache.begin(&(300 + key), 1)? {
+                    // It is not waited for either.
+                    drop(cache.try_begin(&(300 + key), 1)?);
+                    match key % 3 {
+                        0 => cache.invalidate(&(300 + key))?,
+                        1 => drop(cache.insert(&(300 + key), 1, 3)?),
+                        _ => cache.clear()?,
+                    }
+                    drop(making.ready(4)?);
+                }
+            }
+            Ok::<_, Refusal>(())
+        };
+        let shard = &cache.shards[0];
+        thread::scope(|scope| {
+            let state = shard.lock();
+            let thread = scope.spawn(|| {
+                let made = panic::catch_unwind(AssertUnwindSafe(makings));
+                // Who was woken has time to see that it was too early.
+                thread::sleep(Duration::from_millis(50));
+                is_over.store(true, Ordering::SeqCst);
+                shard.ended.notify_all();
+                made
+            });
+            // This thread is not counted among those that wait.
+            drop(unpoisoned(shard.ended.wait(state)));
+            assert!(is_over.load(Ordering::SeqCst));
+            let made = thread.join().and_then(|made| made);
+            made.unwrap_or_else(|panic| panic::resume_unwind(panic))
+        })
+    }
+}
