@@ -18,8 +18,8 @@
 //!   refused.
 //! - [`contains`](Cache::contains) counts as a use.
 //! - [`Maker::ready`] may be refused.
-//! - It has no strict limit, listener, counts of hits and misses, room that is reserved,
-//!   `advice_evict` and `release_and_evict`.
+//! - It has no strict limit, counts of hits and misses, room that is reserved, `advice_evict` and
+//!   `release_and_evict`.
 //!
 //! A cache has a reader of each shard for each thread that calls it, in 64 bytes for four shards.
 //! When a thread ends, its readers are left for another one. They are freed with the cache.
@@ -59,18 +59,20 @@ use std::marker::PhantomData;
 use std::mem::ManuallyDrop;
 use std::num::NonZeroUsize;
 use std::ops::Deref;
+use std::panic::AssertUnwindSafe;
 use std::sync::{Arc, MutexGuard};
 use std::task::{Context, Poll};
 
 use crate::error::{self, GetError, Refusal};
 use crate::ffi;
 use crate::key::WordsKey;
+use crate::leaving::{Leaving, Reason};
 use crate::makings;
 use crate::proved::random_seed;
 use crate::sharded::{shards_for, share};
 
 use lanes::Lanes;
-use shard::{Left, Node, Pin, Route, Shard, State, Turn, told};
+use shard::{Left, Listener, Node, Pin, Route, Shard, State, Turn, told};
 
 /// A charge for the beginning of a making whose charge is told with the value. The library does not
 /// keep it.
@@ -136,6 +138,7 @@ pub struct Cache<K: WordsKey + ?Sized, V> {
     lanes: Lanes,
     shards: Box<[Shard<V>]>,
     seed: u64,
+    listener: Option<AssertUnwindSafe<Listener<V>>>,
     keys: PhantomData<fn(&K)>,
     // Threads that share a cache also share its values, through handles.
     values: PhantomData<V>,
@@ -186,9 +189,46 @@ impl<K: WordsKey + ?Sized, V> Cache<K, V> {
             lanes: Lanes::new(count),
             shards: shards.into_boxed_slice(),
             seed,
+            listener: None,
             keys: PhantomData,
             values: PhantomData,
         })
+    }
+
+    /// Has `listener` told of each value that leaves the cache, just before the value is dropped,
+    /// with its key as it is [written](crate::key::Key::written), its charge and the [`Reason`].
+    ///
+    /// No lock is held meanwhile, so the listener may call the cache. If it panics, it is told of
+    /// all other values that leave with the same call, which are dropped too, and then the panic
+    /// reaches the caller. It is not told of values that are dropped with the cache, nor of those
+    /// that were refused. It costs a hit nothing.
+    ///
+    /// # Examples
+    ///
+    /// ```
+    /// use concurrent_lru_proved::Reason;
+    /// use concurrent_lru_proved::clock::Cache;
+    /// use std::sync::mpsc;
+    ///
+    /// # fn main() -> Result<(), concurrent_lru_proved::Refusal> {
+    /// let (sender, left) = mpsc::channel();
+    /// let cache = Cache::<u64, &str>::new(10)?.with_listener(move |leaving| {
+    ///     let [_, key] = leaving.key;
+    ///     let _ = sender.send((key, *leaving.value, leaving.reason));
+    /// });
+    /// cache.insert(&7, 1, "seven")?;
+    /// cache.insert(&7, 1, "another seven")?;
+    /// assert_eq!(left.recv(), Ok((7, "seven", Reason::Replaced)));
+    /// # Ok(())
+    /// # }
+    /// ```
+    #[must_use]
+    pub fn with_listener(
+        mut self,
+        listener: impl Fn(Leaving<'_, V, [u64; 2]>) + Send + Sync + 'static,
+    ) -> Self {
+        self.listener = Some(AssertUnwindSafe(Arc::new(listener)));
+        self
     }
 
     /// Returns a handle of the key's value, or `None` if there is no value or it is still being
@@ -704,13 +744,14 @@ impl<K: WordsKey + ?Sized, V> Cache<K, V> {
         }
         let route = self.route(key);
         let node = Node::new(route.key, charge, value);
-        let mut left = Left::new();
+        let mut left = self.left();
         let shard = &self.shards[route.shard];
         let mut state = shard.lock();
         let (inserted, ended) = state.insert(route, node, &mut left);
         let inserted = inserted.map(|pin| self.handle(route.shard, pin));
         shard.unlock(state, ended);
-        let handle = inserted?;
+        // A value that is refused is dropped, and the listener is not told of it.
+        let handle = inserted.map_err(|(refusal, _node)| refusal)?;
         // If the drop of a value panics, the handle is dropped too. It would be leaked if it were
         // the return value already.
         drop(left);
@@ -729,7 +770,7 @@ impl<K: WordsKey + ?Sized, V> Cache<K, V> {
         Q: WordsKey<Form = K::Form> + ?Sized,
     {
         let route = self.route(key);
-        let mut left = Left::new();
+        let mut left = self.left();
         let mut state = self.shards[route.shard].lock();
         let found = state.find(route)?;
         if let Some(pin) = found {
@@ -757,7 +798,7 @@ impl<K: WordsKey + ?Sized, V> Cache<K, V> {
     /// Evicts every idle value, one shard after another.
     pub fn prune(&self) {
         for shard in &self.shards {
-            let mut left = Left::new();
+            let mut left = self.left();
             shard.lock().prune(&mut left);
         }
     }
@@ -786,7 +827,7 @@ impl<K: WordsKey + ?Sized, V> Cache<K, V> {
     /// ```
     pub fn clear(&self) -> Result<(), Refusal> {
         self.shards.iter().try_for_each(|shard| {
-            let mut left = Left::new();
+            let mut left = self.left();
             let mut state = shard.lock();
             let (cleared, ended) = state.clear(self.seed, self.shards.len(), &mut left);
             shard.unlock(state, ended);
@@ -907,9 +948,14 @@ impl<K: WordsKey + ?Sized, V> Cache<K, V> {
     pub fn set_capacity(&self, capacity: u64) {
         let share = share(capacity, self.shards.len());
         for shard in &self.shards {
-            let mut left = Left::new();
+            let mut left = self.left();
             shard.lock().set_capacity(share, &mut left);
         }
+    }
+
+    /// An empty list, whose values the listener is told of.
+    fn left(&self) -> Left<'_, V> {
+        Left::new(self.listener.as_deref())
     }
 
     #[inline]
@@ -1030,11 +1076,12 @@ impl<K: WordsKey + ?Sized, V> Cache<K, V> {
 
     /// Invalidates a key if this is so when the lock is held.
     fn erase_if(&self, route: Route, is_so: impl FnOnce() -> bool) {
-        let mut left = Left::new();
+        let mut left = self.left();
         let shard = &self.shards[route.shard];
         let mut state = shard.lock();
-        let ended = is_so().then(|| state.erase(route, &mut left)).flatten();
-        shard.unlock(state, ended);
+        let reason = Reason::Invalidated;
+        let ended = is_so().then(|| state.erase(route, reason, &mut left));
+        shard.unlock(state, ended.flatten());
     }
 
     /// Calls `visit` with a handle of each value that its key finds.
@@ -1089,13 +1136,13 @@ impl<K: WordsKey + ?Sized, V> Cache<K, V> {
     /// Does with the lock what is left to do after the reader was told this code.
     #[cold]
     fn unpin_locked(&self, shard: usize, place: u32, code: u32) {
-        let mut left = Left::new();
+        let mut left = self.left();
         // The lock is released at the end of each statement, before the value is dropped.
-        if code == ffi::LAST {
-            self.shards[shard].lock().collect(place, &mut left);
-        } else {
-            debug_assert_eq!(code, ffi::CLOSED);
-            self.lock_after(code, shard).unpin(place, &mut left);
+        match code {
+            ffi::LAST => self.shards[shard].lock().collect(place, &mut left),
+            ffi::CLOSED => self.lock_after(code, shard).unpin(place, &mut left),
+            // The pin was given back.
+            _ => {}
         }
     }
 }
@@ -1192,14 +1239,14 @@ impl<'a, K: WordsKey + ?Sized, V> Maker<'a, K, V> {
         }
         let this = ManuallyDrop::new(self);
         let node = Node::new(this.route.key, charge, value);
-        let mut left = Left::new();
+        let mut left = this.cache.left();
         let shard = &this.cache.shards[this.route.shard];
         let mut state = shard.lock();
         let (made, ended) = state.ready(this.route, this.ticket, node, &mut left);
         let made = made.map(|pin| this.cache.handle(this.route.shard, pin));
         shard.unlock(state, ended);
-        let handle = made?;
         // As in `insert`.
+        let handle = made.map_err(|(refusal, _node)| refusal)?;
         drop(left);
         Ok(handle)
     }

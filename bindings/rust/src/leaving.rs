@@ -150,24 +150,35 @@ impl<F: Form, V> Drop for Evicted<'_, F, V> {
         let Some(listener) = self.listener else {
             return;
         };
-        let mut panicked = None;
-        for (value, departure) in self.values.iter().zip(&self.departures) {
-            let Some(departure) = departure else {
-                continue;
-            };
-            let leaving = Leaving {
-                key: F::of_raw(CallsOf::<F>::of_copy(&departure.key)),
-                value: &**value,
-                charge: departure.charge,
-                reason: departure.reason,
-            };
-            // The others are told of in any case.
-            let told = panic::catch_unwind(AssertUnwindSafe(|| listener(leaving)));
-            panicked = panicked.or(told.err());
-        }
-        // A second panic would end the program.
-        if let Some(panic) = panicked.filter(|_| !thread::panicking()) {
-            panic::resume_unwind(panic);
-        }
+        let all = self.values.iter().zip(&self.departures);
+        tell_all::<F, V>(
+            listener,
+            all.filter_map(|(value, departure)| {
+                let departure = departure.as_ref()?;
+                Some(Leaving {
+                    key: F::of_raw(CallsOf::<F>::of_copy(&departure.key)),
+                    value: &**value,
+                    charge: departure.charge,
+                    reason: departure.reason,
+                })
+            }),
+        );
+    }
+}
+
+/// Has a listener told of values that leave. If it panics, it is told of the others in any case,
+/// and then the panic goes on.
+pub(crate) fn tell_all<'a, F: Form, V: 'a>(
+    listener: &Listener<F, V>,
+    all: impl Iterator<Item = Leaving<'a, V, Written<'a, F>>>,
+) {
+    let mut panicked = None;
+    for leaving in all {
+        let told = panic::catch_unwind(AssertUnwindSafe(|| listener(leaving)));
+        panicked = panicked.or(told.err());
+    }
+    // A second panic would end the program.
+    if let Some(panic) = panicked.filter(|_| !thread::panicking()) {
+        panic::resume_unwind(panic);
     }
 }

@@ -1,14 +1,16 @@
 //! A shard: a clock of the library behind a lock, with values in boxes.
 
+use std::iter;
 use std::marker::PhantomData;
 use std::mem;
 use std::ptr::NonNull;
-use std::sync::atomic::{AtomicBool, Ordering};
-use std::sync::{Condvar, Mutex, MutexGuard};
+use std::sync::{Condvar, Mutex, MutexGuard, OnceLock};
 
 use crate::error::{self, Refusal};
 use crate::ffi::{self, Found, Handle};
+use crate::form::Words;
 use crate::hash::hash_of_words;
+use crate::leaving::{self, Leaving, Reason};
 use crate::proved::{done, refusal, value_of, word_of};
 use crate::unsharded::unpoisoned;
 use crate::waiting::WaitList;
@@ -19,8 +21,8 @@ pub(super) struct Node<V> {
     pub(super) value: V,
     pub(super) key: [u64; 2],
     pub(super) charge: u64,
-    /// Whether the key finds it. Written with the lock of the shard held.
-    is_listed: AtomicBool,
+    /// Why its key does not find it any more. Written with the lock of the shard held.
+    detached: OnceLock<Reason>,
     /// The next node in a list of those that left.
     next: Option<Box<Node<V>>>,
 }
@@ -31,27 +33,47 @@ impl<V> Node<V> {
             value,
             key,
             charge,
-            is_listed: AtomicBool::new(true),
+            detached: OnceLock::new(),
             next: None,
         })
     }
 
     /// Whether the key finds it. It may cease to meanwhile, unless the caller has the lock.
     pub(super) fn is_listed(&self) -> bool {
-        self.is_listed.load(Ordering::Relaxed)
+        self.detached.get().is_none()
     }
 
-    fn unlist(&self) {
-        self.is_listed.store(false, Ordering::Relaxed);
+    /// Notes that its key does not find it any more.
+    fn detach(&self, reason: Reason) {
+        // The first reason stays.
+        let _ = self.detached.set(reason);
+    }
+
+    /// What a listener is told when it leaves.
+    fn leaving(&self) -> Leaving<'_, V, [u64; 2]> {
+        Leaving {
+            key: self.key,
+            value: &self.value,
+            charge: self.charge,
+            reason: self.detached.get().copied().unwrap_or(Reason::Evicted),
+        }
     }
 }
 
-/// The nodes of entries that left. They must be dropped after the lock is released.
-pub(super) struct Left<V>(Option<Box<Node<V>>>);
+/// Is told of each value that leaves.
+pub(super) type Listener<V> = leaving::Listener<Words, V>;
 
-impl<V> Left<V> {
-    pub(super) fn new() -> Left<V> {
-        Left(None)
+/// The nodes of entries that left. They must be dropped after the lock is released: the listener is
+/// told of each of them first.
+pub(super) struct Left<'a, V> {
+    listener: Option<&'a Listener<V>>,
+    nodes: Nodes<V>,
+}
+
+impl<'a, V> Left<'a, V> {
+    pub(super) fn new(listener: Option<&'a Listener<V>>) -> Self {
+        let nodes = Nodes(None);
+        Left { listener, nodes }
     }
 
     /// Takes over the node of an entry that left.
@@ -59,9 +81,28 @@ impl<V> Left<V> {
         // SAFETY: the word is the address of a box that `add` or `ready` stored. The library tells
         // each word once, and only when its entry has no pin.
         let node = unsafe { Box::from_raw(value_of(left.value).as_ptr()) };
-        self.push(node);
+        self.nodes.push(node);
     }
+}
 
+impl<V> Drop for Left<'_, V> {
+    fn drop(&mut self) {
+        // The last one that was pushed is the first. Those that left first are told of first.
+        let mut nodes = Nodes(None);
+        while let Some(node) = self.nodes.pop() {
+            nodes.push(node);
+        }
+        if let Some(listener) = self.listener {
+            let all = iter::successors(nodes.0.as_deref(), |node| node.next.as_deref());
+            leaving::tell_all::<Words, V>(listener, all.map(Node::leaving));
+        }
+    }
+}
+
+/// A list of nodes.
+struct Nodes<V>(Option<Box<Node<V>>>);
+
+impl<V> Nodes<V> {
     fn push(&mut self, mut node: Box<Node<V>>) {
         node.next = self.0.take();
         self.0 = Some(node);
@@ -74,10 +115,10 @@ impl<V> Left<V> {
     }
 }
 
-impl<V> Drop for Left<V> {
+impl<V> Drop for Nodes<V> {
     fn drop(&mut self) {
         /// Drops the others if the drop of a value panics.
-        struct Others<'a, V>(&'a mut Left<V>);
+        struct Others<'a, V>(&'a mut Nodes<V>);
         impl<V> Drop for Others<'_, V> {
             fn drop(&mut self) {
                 while let Some(node) = self.0.pop() {
@@ -159,6 +200,9 @@ pub(super) enum Turn<V> {
     Wait(u64),
 }
 
+/// The pin of a node that was stored, or the node and why it was refused.
+pub(super) type Stored<V> = Result<Pin<V>, (Refusal, Box<Node<V>>)>;
+
 /// A value that is being made, and that its key will find.
 pub(super) struct Making {
     ticket: u64,
@@ -233,9 +277,9 @@ pub(super) struct State<V> {
     /// A reader for whoever has the lock.
     reader: Handle,
     makings: Vec<Making>,
-    /// The tickets of those whose keys were invalidated or got another value meanwhile. It has room
-    /// for those of `makings` too.
-    detached: Vec<u64>,
+    /// The tickets of those whose keys were invalidated or got another value meanwhile, and why. It
+    /// has room for those of `makings` too.
+    detached: Vec<(u64, Reason)>,
     nodes: PhantomData<Box<Node<V>>>,
 }
 
@@ -264,7 +308,7 @@ impl<V> State<V> {
     }
 
     /// Gives a pin back.
-    pub(super) fn unpin(&mut self, place: u32, left: &mut Left<V>) {
+    pub(super) fn unpin(&mut self, place: u32, left: &mut Left<'_, V>) {
         // SAFETY: this state has the only copy of the handle.
         let code = unsafe { ffi::lru_reader_unpin(&mut self.reader, place) };
         if code == ffi::LAST {
@@ -273,7 +317,7 @@ impl<V> State<V> {
     }
 
     /// Takes out the entry at a place that was invalidated and whose last pin was given back.
-    pub(super) fn collect(&mut self, place: u32, left: &mut Left<V>) {
+    pub(super) fn collect(&mut self, place: u32, left: &mut Left<'_, V>) {
         let mut gone = ffi::Left::default();
         // SAFETY: this state has the only copy of the handle.
         if unsafe { ffi::lru_clock_collect(&mut self.clock, place, &mut gone) } == ffi::GONE {
@@ -325,15 +369,17 @@ impl<V> State<V> {
         route: Route,
         ticket: u64,
         node: Box<Node<V>>,
-        left: &mut Left<V>,
-    ) -> (Result<Pin<V>, Refusal>, Option<Making>) {
+        left: &mut Left<'_, V>,
+    ) -> (Stored<V>, Option<Making>) {
         self.make_room(node.charge, left);
-        let ended = self.end(ticket);
-        if ended.is_none() {
-            // The key was invalidated or got another value meanwhile.
-            node.unlist();
-        }
-        let stored = self.store(node, left, |clock, charge, word| {
+        let ended = match self.end(ticket) {
+            Ok(making) => Some(making),
+            Err(reason) => {
+                node.detach(reason);
+                None
+            }
+        };
+        let stored = self.store(node, |clock, charge, word| {
             // SAFETY: this state has the only copy of the handle.
             unsafe { ffi::lru_clock_ready(clock, ticket, route.hash, charge, word) }
         });
@@ -345,7 +391,7 @@ impl<V> State<V> {
         // SAFETY: this state has the only copy of the handle.
         let code = unsafe { ffi::lru_clock_fail(&mut self.clock, ticket) };
         debug_assert_eq!(code, ffi::DONE);
-        self.end(ticket)
+        self.end(ticket).ok()
     }
 
     /// Invalidates a key, and stores a value for it, which is pinned. Also returns the making that
@@ -354,30 +400,27 @@ impl<V> State<V> {
         &mut self,
         route: Route,
         node: Box<Node<V>>,
-        left: &mut Left<V>,
-    ) -> (Result<Pin<V>, Refusal>, Option<Making>) {
+        left: &mut Left<'_, V>,
+    ) -> (Stored<V>, Option<Making>) {
         if self.total().checked_add(node.charge).is_none() {
-            left.push(node);
-            return (Err(Refusal::Overflow), None);
+            return (Err((Refusal::Overflow, node)), None);
         }
-        let ended = self.erase(route, left);
+        let ended = self.erase(route, Reason::Replaced, left);
         self.make_room(node.charge, left);
         let [first, second] = route.key;
-        let stored = self.store(node, left, |clock, charge, word| {
+        let stored = self.store(node, |clock, charge, word| {
             // SAFETY: this state has the only copy of the handle.
             unsafe { ffi::lru_clock_add(clock, route.hash, first, second, charge, word) }
         });
         (stored, ended)
     }
 
-    /// Stores a node by a function of the library, which is given its charge and its word. A node
-    /// that is refused leaves at once.
+    /// Stores a node by a function of the library, which is given its charge and its word.
     fn store(
         &mut self,
         node: Box<Node<V>>,
-        left: &mut Left<V>,
         store: impl FnOnce(*mut Handle, u64, u64) -> Found,
-    ) -> Result<Pin<V>, Refusal> {
+    ) -> Stored<V> {
         let charge = node.charge;
         let word = word_of(Box::into_raw(node));
         let found = store(&mut self.clock, charge, word);
@@ -385,17 +428,22 @@ impl<V> State<V> {
             return Ok(Pin::of(found));
         }
         // SAFETY: the pointer is that of the box above, and the library has not stored it.
-        left.push(unsafe { Box::from_raw(value_of(word).as_ptr()) });
-        Err(refusal(found.code))
+        let node = unsafe { Box::from_raw(value_of(word).as_ptr()) };
+        Err((refusal(found.code), node))
     }
 
     /// Invalidates a key. Returns the making that this has ended, if one.
-    pub(super) fn erase(&mut self, route: Route, left: &mut Left<V>) -> Option<Making> {
+    pub(super) fn erase(
+        &mut self,
+        route: Route,
+        reason: Reason,
+        left: &mut Left<'_, V>,
+    ) -> Option<Making> {
         // A value that cannot be pinned once more is invalidated too.
         let found = self.find(route).ok().flatten();
         if let Some(pin) = found {
             // SAFETY: the entry is pinned, so its node stays.
-            unsafe { pin.node.as_ref() }.unlist();
+            unsafe { pin.node.as_ref() }.detach(reason);
         }
         let [first, second] = route.key;
         let mut gone = ffi::Left::default();
@@ -411,29 +459,32 @@ impl<V> State<V> {
         let mut makings = self.makings.iter();
         let place = makings.position(|making| making.route.key == route.key)?;
         let making = self.makings.swap_remove(place);
-        self.detached.push(making.ticket);
+        self.detached.push((making.ticket, reason));
         Some(making)
     }
 
-    /// Removes the making with a ticket. Returns it, unless its key was invalidated or got another
-    /// value meanwhile.
-    fn end(&mut self, ticket: u64) -> Option<Making> {
+    /// Removes the making with a ticket. Returns it, or why its key does not find its value if this
+    /// was invalidated or got another value meanwhile.
+    fn end(&mut self, ticket: u64) -> Result<Making, Reason> {
         let mut makings = self.makings.iter();
         if let Some(place) = makings.position(|making| making.ticket == ticket) {
-            return Some(self.makings.swap_remove(place));
+            return Ok(self.makings.swap_remove(place));
         }
-        self.detached.retain(|detached| *detached != ticket);
-        None
+        let mut detached = self.detached.iter();
+        let Some(place) = detached.position(|detached| detached.0 == ticket) else {
+            unreachable!("each ticket is in one of the lists, and ends once");
+        };
+        Err(self.detached.swap_remove(place).1)
     }
 
     /// The ticket of a making.
     fn any_ticket(&self) -> Option<u64> {
         let making = self.makings.last().map(|making| making.ticket);
-        making.or(self.detached.last().copied())
+        making.or(self.detached.last().map(|detached| detached.0))
     }
 
     /// Evicts entries until a charge has room, or all that are left are pinned.
-    pub(super) fn make_room(&mut self, charge: u64, left: &mut Left<V>) {
+    pub(super) fn make_room(&mut self, charge: u64, left: &mut Left<'_, V>) {
         let mut gone = ffi::Left::default();
         // SAFETY: this state has the only copy of the handle.
         while unsafe { ffi::lru_clock_make_room(&mut self.clock, charge, &mut gone) } == ffi::GONE {
@@ -442,7 +493,7 @@ impl<V> State<V> {
     }
 
     /// Evicts every entry without a pin.
-    pub(super) fn prune(&mut self, left: &mut Left<V>) {
+    pub(super) fn prune(&mut self, left: &mut Left<'_, V>) {
         let mut next = 0;
         let mut gone = ffi::Left::default();
         // SAFETY: this state has the only copy of the handle.
@@ -457,12 +508,12 @@ impl<V> State<V> {
         &mut self,
         seed: u64,
         shards: usize,
-        left: &mut Left<V>,
+        left: &mut Left<'_, V>,
     ) -> (Result<(), Refusal>, Vec<Making>) {
         let ended = mem::take(&mut self.makings);
         for making in &ended {
-            self.erase(making.route, left);
-            self.detached.push(making.ticket);
+            self.erase(making.route, Reason::Cleared, left);
+            self.detached.push((making.ticket, Reason::Cleared));
         }
         for place in 0..self.places() {
             let pin: Pin<V> = match told(self.pin_at(place)) {
@@ -473,7 +524,8 @@ impl<V> State<V> {
             // SAFETY: the entry is pinned, so its node stays.
             let node = unsafe { pin.node.as_ref() };
             if node.is_listed() {
-                self.erase(Route::new(node.key, seed, shards), left);
+                let route = Route::new(node.key, seed, shards);
+                self.erase(route, Reason::Cleared, left);
             }
             self.unpin(place, left);
         }
@@ -481,7 +533,7 @@ impl<V> State<V> {
     }
 
     /// Sets the capacity, and evicts down to it.
-    pub(super) fn set_capacity(&mut self, capacity: u64, left: &mut Left<V>) {
+    pub(super) fn set_capacity(&mut self, capacity: u64, left: &mut Left<'_, V>) {
         // SAFETY: this state has the only copy of the handle.
         unsafe { ffi::lru_clock_set_capacity(&mut self.clock, capacity) };
         self.make_room(0, left);
@@ -525,7 +577,7 @@ impl<V> State<V> {
 
 impl<V> Drop for State<V> {
     fn drop(&mut self) {
-        let mut left = Left::new();
+        let mut left = Left::new(None);
         self.prune(&mut left);
         // SAFETY: this state has the only copy of the handle.
         if unsafe { ffi::lru_clock_free(&mut self.clock) } == ffi::NOT_EMPTY {
