@@ -18,8 +18,8 @@
 //!   refused.
 //! - [`contains`](Cache::contains) counts as a use.
 //! - [`Maker::ready`] may be refused.
-//! - It has no strict limit, counts of hits and misses, room that is reserved, `advice_evict` and
-//!   `release_and_evict`.
+//! - [`stats`](Cache::stats) counts what is made, stored and evicted, but no hits and misses.
+//! - It has no strict limit, room that is reserved, `advice_evict` and `release_and_evict`.
 //!
 //! A cache has a reader of each shard for each thread that calls it, in 64 bytes for four shards.
 //! When a thread ends, its readers are left for another one. They are freed with the cache.
@@ -943,6 +943,31 @@ impl<K: WordsKey + ?Sized, V> Cache<K, V> {
         capacities.map(u128::from).sum()
     }
 
+    /// Returns how many values were stored and have left since the cache was created, how many were
+    /// made or could not be made, and what the cache holds. It costs a hit nothing. No snapshot, as
+    /// [`len`](Self::len).
+    ///
+    /// # Examples
+    ///
+    /// ```
+    /// use concurrent_lru_proved::clock::Cache;
+    ///
+    /// # fn main() -> Result<(), concurrent_lru_proved::Refusal> {
+    /// let cache = Cache::<u64, String>::new(10)?;
+    /// for key in [7, 8, 7, 7] {
+    ///     cache.get_or_init(&key, 1, |key| key.to_string())?;
+    /// }
+    /// cache.invalidate(&8)?;
+    /// let stats = cache.stats();
+    /// assert_eq!((stats.loads, stats.evictions, stats.entries), (2, 1, 1));
+    /// # Ok(())
+    /// # }
+    /// ```
+    pub fn stats(&self) -> Stats {
+        let shards = self.shards.iter().map(|shard| shard.lock().stats());
+        shards.fold(Stats::default(), Stats::saturating_add)
+    }
+
     /// Sets the capacity, of which each shard gets an equal share, rounded up. Idle values that
     /// exceed it are evicted at once.
     pub fn set_capacity(&self, capacity: u64) {
@@ -1137,7 +1162,7 @@ impl<K: WordsKey + ?Sized, V> Cache<K, V> {
     #[cold]
     fn unpin_locked(&self, shard: usize, place: u32, code: u32) {
         let mut left = self.left();
-        // The lock is released at the end of each statement, before the value is dropped.
+        // The lock is released at the end of each arm, before the value is dropped.
         match code {
             ffi::LAST => self.shards[shard].lock().collect(place, &mut left),
             ffi::CLOSED => self.lock_after(code, shard).unpin(place, &mut left),
@@ -1153,6 +1178,47 @@ impl<K: WordsKey + ?Sized, V> fmt::Debug for Cache<K, V> {
             .field("capacity", &self.capacity())
             .field("total_charge", &self.total_charge())
             .finish_non_exhaustive()
+    }
+}
+
+/// What the calls on a cache have done since it was created, and what it holds now.
+///
+/// Hits are not counted: a counter that all threads write would cost a hit as much as a lock. The
+/// values inserted are those present and those that have left: `insertions` is the sum of `entries`
+/// and `evictions`. To count from some time on, subtract the numbers of that time.
+#[derive(Debug, Clone, Copy, Default, PartialEq, Eq)]
+#[non_exhaustive]
+pub struct Stats {
+    /// Values that were stored, by [`insert`](Cache::insert) or by those who made them.
+    pub insertions: u64,
+    /// Values that have left, for whatever [`Reason`].
+    pub evictions: u64,
+    /// Values that were made, by an `init` or by other holders of a [`Maker`], and stored.
+    pub loads: u64,
+    /// Values that could not be made, as `init` failed, panicked or was dropped or a [`Maker`] was
+    /// dropped, and those that were made and refused.
+    pub load_failures: u64,
+    /// Values present, as [`len`](Cache::len) returns it.
+    pub entries: u64,
+    /// The total of their charges, as [`total_charge`](Cache::total_charge) returns it.
+    pub charge: u128,
+    /// The capacity, as [`capacity`](Cache::capacity) returns it.
+    pub capacity: u128,
+}
+
+impl Stats {
+    /// Returns the sums of these numbers and those of another cache, one by one. A sum stays at the
+    /// maximum of its type.
+    pub fn saturating_add(self, other: Stats) -> Stats {
+        Stats {
+            insertions: self.insertions.saturating_add(other.insertions),
+            evictions: self.evictions.saturating_add(other.evictions),
+            loads: self.loads.saturating_add(other.loads),
+            load_failures: self.load_failures.saturating_add(other.load_failures),
+            entries: self.entries.saturating_add(other.entries),
+            charge: self.charge.saturating_add(other.charge),
+            capacity: self.capacity.saturating_add(other.capacity),
+        }
     }
 }
 

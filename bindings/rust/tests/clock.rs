@@ -811,6 +811,61 @@ fn an_owned_handle_keeps_its_cache_alive() -> Result<(), Refusal> {
 }
 
 #[test]
+fn stats_tell_what_was_stored_made_and_evicted() -> Result<(), Refusal> {
+    let cache = Cache::with_seed(12, NonZeroUsize::new(3).unwrap(), 7)?;
+    let counts = |cache: &Cache<u64, u64>| {
+        let stats = cache.stats();
+        assert_eq!(stats.insertions, stats.evictions + stats.entries);
+        assert_eq!(
+            (stats.entries, stats.charge),
+            (cache.len(), cache.total_charge())
+        );
+        assert_eq!(stats.capacity, 12);
+        (stats.insertions, stats.loads, stats.load_failures)
+    };
+    assert_eq!(counts(&cache), (0, 0, 0));
+    let held: Result<Vec<_>, _> = (0..30).map(|key| cache.insert(&key, 1, key)).collect();
+    let held = held?;
+    let refused = cache.get_or_init_with(&30, |_| (30, u64::MAX)).err();
+    assert_eq!((refused, held.len()), (Some(Refusal::Overflow), 30));
+    drop(held);
+    assert_eq!(counts(&cache), (30, 0, 1));
+    cache.set_capacity(12);
+    assert!(cache.stats().evictions >= 18);
+    cache.prune();
+    let held = cache.get_or_init(&1, 2, |_| 1)?;
+    cache.get_or_init(&1, 2, |_| 2)?;
+    cache.get(&1)?;
+    assert_eq!((counts(&cache), cache.stats().charge), ((31, 1, 1), 2));
+    drop(cache.get_or_try_init(&2, 1, |_| Err(())));
+    drop(cache.begin(&2, 1)?);
+    drop(cache.get_or_init_with(&2, |_| (2, 0)));
+    drop(cache.insert(&1, u64::MAX, 2));
+    let panicked = panic::catch_unwind(AssertUnwindSafe(|| {
+        cache.get_or_init(&2, 1, |_| panic!("no value")).map(drop)
+    }));
+    assert!(panicked.is_err());
+    assert_eq!(counts(&cache), (31, 1, 5));
+    // One that no key finds is present as long as it has a handle.
+    cache.invalidate(&1)?;
+    assert_eq!(cache.stats().entries, 1);
+    drop(held);
+    assert_eq!((cache.stats().entries, cache.stats().evictions), (0, 31));
+    // A value for its maker alone was stored too.
+    if let Begun::Make(maker) = cache.begin(&1, 1)? {
+        cache.insert(&1, 1, 3)?;
+        drop(maker.ready(4)?);
+    }
+    assert_eq!((counts(&cache), cache.stats().evictions), ((33, 2, 5), 32));
+    let both = cache.stats().saturating_add(cache.stats());
+    assert_eq!(
+        (both.insertions, both.load_failures, both.charge),
+        (66, 10, 2)
+    );
+    Ok(())
+}
+
+#[test]
 fn debug_prints_values_and_numbers() -> Result<(), Refusal> {
     let cache = Arc::new(one_shard(10)?);
     let handle = cache.insert(&1, 2, "one")?;

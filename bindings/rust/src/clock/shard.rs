@@ -6,6 +6,7 @@ use std::mem;
 use std::ptr::NonNull;
 use std::sync::{Condvar, Mutex, MutexGuard, OnceLock};
 
+use super::Stats;
 use crate::error::{self, Refusal};
 use crate::ffi::{self, Found, Handle};
 use crate::form::Words;
@@ -227,6 +228,9 @@ impl<V> Shard<V> {
             reader: Handle::CLOSED,
             makings: Vec::new(),
             detached: Vec::new(),
+            inserted: 0,
+            made: 0,
+            failed: 0,
             nodes: PhantomData,
         };
         // SAFETY: the clock is closed, and there is no other copy of it.
@@ -280,6 +284,11 @@ pub(super) struct State<V> {
     /// The tickets of those whose keys were invalidated or got another value meanwhile, and why. It
     /// has room for those of `makings` too.
     detached: Vec<(u64, Reason)>,
+    /// How many values were stored that were not made by those who asked for them.
+    inserted: u64,
+    /// How many makings have ended, by whether the value was stored.
+    made: u64,
+    failed: u64,
     nodes: PhantomData<Box<Node<V>>>,
 }
 
@@ -383,6 +392,10 @@ impl<V> State<V> {
             // SAFETY: this state has the only copy of the handle.
             unsafe { ffi::lru_clock_ready(clock, ticket, route.hash, charge, word) }
         });
+        match stored {
+            Ok(_) => self.made += 1,
+            Err(_) => self.failed += 1,
+        }
         (stored, ended)
     }
 
@@ -391,6 +404,7 @@ impl<V> State<V> {
         // SAFETY: this state has the only copy of the handle.
         let code = unsafe { ffi::lru_clock_fail(&mut self.clock, ticket) };
         debug_assert_eq!(code, ffi::DONE);
+        self.failed += 1;
         self.end(ticket).ok()
     }
 
@@ -412,6 +426,7 @@ impl<V> State<V> {
             // SAFETY: this state has the only copy of the handle.
             unsafe { ffi::lru_clock_add(clock, route.hash, first, second, charge, word) }
         });
+        self.inserted += u64::from(stored.is_ok());
         (stored, ended)
     }
 
@@ -565,6 +580,21 @@ impl<V> State<V> {
         // SAFETY: this state has the only copy of the handle.
         let found = unsafe { ffi::lru_clock_len(&mut self.clock) };
         found.value
+    }
+
+    /// What the calls on the clock have done, and what it holds.
+    pub(super) fn stats(&mut self) -> Stats {
+        let entries = self.len();
+        let insertions = self.inserted + self.made;
+        Stats {
+            insertions,
+            evictions: insertions - entries,
+            loads: self.made,
+            load_failures: self.failed,
+            entries,
+            charge: self.total().into(),
+            capacity: self.capacity().into(),
+        }
     }
 
     /// The number of places. It fits, as places are numbered by 32 bits.
