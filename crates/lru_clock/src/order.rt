@@ -215,6 +215,7 @@ impl Order {
     }
 
     /// The entry at a place left. It has a ghost if there is a tag.
+    #[inline(always)]
     pub fn leave(&mut self, place: u32, charge: u64, tag: Option<u32>)
         ensures { self.new ≡ left place charge tag self.old }
     {

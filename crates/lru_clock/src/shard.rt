@@ -135,6 +135,7 @@ impl<K: Hash + Eq + Clone + Drop, V: Drop, F: Fit<K, V>> Shard<K, V, F> {
     }
 
     // Acquires the lock once there is room for a charge, or no entry left that can be evicted.
+    #[inline(always)]
     fn lock_with_room<R: Wait>(
         &self,
         rt: &R,

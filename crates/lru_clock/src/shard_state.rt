@@ -119,6 +119,7 @@ impl<K: Eq + Drop> ShardState<K> {
 
     /// Vacates the seat of an entry that was taken out of its slot, and counts an eviction. The
     /// entry has a ghost only if the hands evicted it and the index had it.
+    #[inline(always)]
     pub(crate) fn vacate<'a, V: Drop, F: Fit<K, V>>(
         &mut self,
         taken: Taken<'a, K, V, F>,
@@ -142,6 +143,7 @@ impl<K: Eq + Drop> ShardState<K> {
     }
 
     /// The entry at a place, which was just stored, takes its place in the order.
+    #[inline(always)]
     pub(crate) fn come(&mut self, place: u32)
         ensures { self.new ≡ record self.old {
           order = arrived self.old.seats place self.old.capacity self.old.order;

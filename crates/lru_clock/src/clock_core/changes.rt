@@ -59,6 +59,7 @@ impl<K: Eq + Clone + Drop, V: Drop, F: Fit<K, V>> Core<K, V, F> {
     /// of the entry that has just left, the new entry takes its slot.
     ///
     /// Returns `Memory` and `Overflow` as `admit` does, with the entry that was refused.
+    #[inline(always)]
     pub fn put<'a>(
         &'a self,
         state: &mut ShardState<K>,

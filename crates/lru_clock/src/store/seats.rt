@@ -236,6 +236,7 @@ impl<K: Eq + Drop> Seats<K> {
 
     /// Adds the entry at a place to the index, unless the index already has an entry of its key.
     /// Returns whether it was added.
+    #[inline(always)]
     pub fn list(&mut self, place: u32) -> bool
         ensures { MatchBool result (ListsAt self.old place self.new) (self.new ≡ self.old) }
     {
