@@ -160,7 +160,8 @@ enum {
     LRU_STALE = 8,    /* the pin names no entry that the call is for, or the ticket no making */
     LRU_MEMORY = 9,   /* malloc or realloc returned null */
     LRU_FULL = 20,    /* a strict begin or insert: the charge and those of the held entries add up
-                         to more than the capacity */
+                         to more than the capacity. Clock: a strict add or ready would take the
+                         total above the capacity */
 
     LRU_NUMBER = 10, /* no refusal: the number that was asked for is told as the value */
 
@@ -289,6 +290,19 @@ typedef struct lru_left {
     uint64_t second;
     uint64_t value; /* the caller's again, to be deleted */
 } lru_left;
+
+/* What has happened in a clock since it was opened, and what it holds. A count that passes 2^64 - 1
+ * starts again at 0. Hits are not counted: a counter that all threads write would cost a hit as
+ * much as a lock. */
+typedef struct lru_clock_counts {
+    uint64_t makings;    /* makings whose value was stored: LRU_DONE of ready */
+    uint64_t failures;   /* makings that ended otherwise: by fail, or refused by ready */
+    uint64_t insertions; /* entries that were added: LRU_DONE of add */
+    uint64_t evictions;  /* entries that have left, by any call */
+    uint64_t entries;    /* as lru_clock_len tells it */
+    uint64_t charge;     /* as lru_clock_total tells it */
+    uint64_t capacity;   /* as lru_clock_capacity tells it */
+} lru_clock_counts;
 
 /* ------------------------------------------------------------------------------- opening caches */
 
@@ -587,7 +601,7 @@ bool lru_chain_is_empty(lru_chain *chain);
  *
  *     while (lru_clock_make_room(&clock, charge, &left) == LRU_GONE)
  *         keep(left);
- *     found = lru_clock_add(&clock, hash, first, second, charge, value);
+ *     found = lru_clock_add(&clock, hash, first, second, charge, value, false);
  *
  * and deletes what was kept once the mutex is released. If another thread has added the key
  * meanwhile, it is told LRU_HIT with the other value, pinned, and its own was not taken.
@@ -609,7 +623,7 @@ bool lru_chain_is_empty(lru_chain *chain);
  *         if (is_made) {
  *             while (lru_clock_make_room(&clock, charge, &left) == LRU_GONE)
  *                 keep(left);
- *             found = lru_clock_ready(&clock, ticket, hash, charge, value);
+ *             found = lru_clock_ready(&clock, ticket, hash, charge, value, false);
  *         } else {
  *             lru_clock_fail(&clock, ticket);
  *         }
@@ -633,7 +647,8 @@ bool lru_chain_is_empty(lru_chain *chain);
  *
  * Less is proved of these calls than of the others: that a call on a handle that is not open
  * changes nothing, that at most one entry leaves in a call, which tells it, that none leaves while
- * its slot counts a pin, that no look-up under the mutex finds a key after it was erased, that
+ * its slot counts a pin, that a strict add or ready is refused exactly if the charge would take the
+ * total above the capacity, that no look-up under the mutex finds a key after it was erased, that
  * nobody is told LRU_MAKE while a caller makes the value of the key, unless it was erased or added
  * meanwhile, and that each ticket is accepted once. That a look-up counts its pin, that each value
  * is told to leave once, and that nobody finds a value that was made for an erased key, is tested.
@@ -692,14 +707,15 @@ lru_code lru_reader_unpin(lru_reader *reader, uint32_t place);
 lru_code lru_clock_make_room(lru_clock *clock, uint64_t charge, lru_left *left);
 
 /* Adds an entry and pins it; or pins the entry that the key has. Evicts nothing: the total may be
- * above the capacity then, if too much is pinned. If a value is being made for the key, nobody
- * waits for it any more: wake the threads that do.
+ * above the capacity then, if too much is pinned, unless the call is strict. If a value is being
+ * made for the key, nobody waits for it any more: wake the threads that do.
  *
  * Allocates, unless the clock has had as many entries at once before. LRU_DONE with the value and
  * the place; LRU_HIT with the value and the place of the key's entry: `value` was not taken;
- * LRU_NO_CHARGE; LRU_MEMORY; LRU_OVERFLOW; LRU_CLOSED. */
+ * LRU_NO_CHARGE; LRU_FULL if `strict` and the charge would take the total above the capacity;
+ * LRU_MEMORY; LRU_OVERFLOW; LRU_CLOSED. */
 lru_found lru_clock_add(lru_clock *clock, uint64_t hash, uint64_t first, uint64_t second,
-                        uint64_t charge, uint64_t value);
+                        uint64_t charge, uint64_t value, bool strict);
 
 /* Pins the entry of a key; or begins the making of its value: the caller makes the value now, with
  * or without the mutex, and then calls ready or fail with the ticket; or tells that another caller
@@ -720,11 +736,12 @@ lru_found lru_clock_begin(lru_clock *clock, uint64_t hash, uint64_t first, uint6
  * pin is told LRU_LAST.
  *
  * Allocates, unless the clock has had as many entries at once before. LRU_DONE with the value and
- * the place; LRU_NO_CHARGE: the making goes on; LRU_STALE if no making has the ticket: it was never
- * told, or the making has ended; LRU_MEMORY and LRU_OVERFLOW: the making has ended, as with fail;
- * LRU_CLOSED. The value is taken with LRU_DONE only. */
+ * the place; LRU_NO_CHARGE: the making goes on; LRU_FULL if `strict` and the charge would take the
+ * total above the capacity, whatever the ticket: the making goes on; LRU_STALE if no making has the
+ * ticket: it was never told, or the making has ended; LRU_MEMORY and LRU_OVERFLOW: the making has
+ * ended, as with fail; LRU_CLOSED. The value is taken with LRU_DONE only. */
 lru_found lru_clock_ready(lru_clock *clock, uint64_t ticket, uint64_t hash, uint64_t charge,
-                          uint64_t value);
+                          uint64_t value, bool strict);
 
 /* Ends a making that failed: the next begin for the key is told LRU_MAKE.
  *
@@ -746,6 +763,13 @@ lru_found lru_clock_find(lru_clock *clock, uint64_t hash, uint64_t first, uint64
 lru_code lru_clock_erase(lru_clock *clock, uint64_t hash, uint64_t first, uint64_t second,
                          lru_left *left);
 
+/* Gives back a pin of the entry at a place, as lru_reader_unpin does, and takes the entry out if it
+ * has no other pin: no look-up finds it any more.
+ *
+ * Does not allocate. LRU_GONE with the entry in `left`; LRU_DONE if it has other pins, and stays;
+ * LRU_STALE if no entry is at the place, or it has no pin; LRU_CLOSED. */
+lru_code lru_clock_release_and_evict(lru_clock *clock, uint32_t place, lru_left *left);
+
 /* Takes out the entry at a place, after LRU_LAST.
  *
  * Does not allocate. LRU_GONE with the entry in `left`; LRU_DONE if no invalidated entry without
@@ -762,6 +786,18 @@ lru_code lru_clock_prune(lru_clock *clock, uint32_t *next, lru_left *left);
  *
  * Does not allocate. LRU_DONE; LRU_CLOSED. */
 lru_code lru_clock_set_capacity(lru_clock *clock, uint64_t capacity);
+
+/* Makes room in memory for as many entries, so that `add` and `ready` allocate nothing
+ * while there are fewer. Never gives memory back.
+ *
+ * Allocates. LRU_DONE; LRU_MEMORY; LRU_OVERFLOW if the clock cannot have as many entries, about
+ * 2^32; LRU_CLOSED. No entry changes in any case; room that was made before a refusal stays. */
+lru_code lru_clock_reserve(lru_clock *clock, size_t entries);
+
+/* What has happened in the clock, and what it holds.
+ *
+ * Does not allocate. LRU_DONE; LRU_CLOSED: nothing is written. */
+lru_code lru_clock_stats(lru_clock *clock, lru_clock_counts *out);
 
 /* The total of the charges of all entries; the total of those that are pinned; the capacity; the
  * number of all entries; and the number of places.

@@ -621,7 +621,7 @@ class alignas(64) ClockCache {
     made->key = key.words;
     made->charge = maker->is_detached_ ? 0 : maker->charge_;
     const lru_found found = lru_clock_ready(&shard.clock, maker->ticket_, key.hash, maker->charge_,
-                                            detail::word_of(made.get()));
+                                            detail::word_of(made.get()), false);
     delist(maker);
     const bool is_awaited = maker->is_awaited_;
     lock.unlock();

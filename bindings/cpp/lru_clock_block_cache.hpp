@@ -306,7 +306,8 @@ class ClockBlocks {
       // A visitor may find it at once.
       entry->is_cached = true;
       entry->SetDetached(true);
-      found = lru_clock_ready(&shard_.clock, found.value, key.hash, charge, word_of(entry));
+      found =
+          lru_clock_ready(&shard_.clock, found.value, key.hash, charge, word_of(entry), false);
       if (found.code == LRU_DONE) {
         entry->SetPlace(found.place);
         shard_.detached++;

@@ -45,7 +45,7 @@ static uint64_t hash_of(uint64_t key) { return key * 0x9e3779b97f4a7c15; }
 /* --------------------------------------------------------------------------------- one thread */
 
 static void adds(lru_clock *clock, lru_reader *reader, uint64_t key, uint64_t charge) {
-    lru_found added = lru_clock_add(clock, hash_of(key), key, ~key, charge, 10 * key);
+    lru_found added = lru_clock_add(clock, hash_of(key), key, ~key, charge, 10 * key, true);
     CHECK(added.code, LRU_DONE);
     CHECK(added.value, 10 * key);
     CHECK(lru_reader_unpin(reader, added.place), LRU_DONE);
@@ -55,6 +55,7 @@ static void test_answers(void) {
     lru_clock clock = {0};
     lru_reader reader = {0}, other = {0};
     lru_left left = {1, 2, 3};
+    lru_clock_counts counts = {0};
     lru_found found;
     uint32_t next = 0, place;
 
@@ -66,10 +67,13 @@ static void test_answers(void) {
     CHECK(lru_reader_pin_at(&reader, 0).code, LRU_CLOSED);
     CHECK(lru_reader_unpin(&reader, 0), LRU_CLOSED);
     CHECK(lru_clock_make_room(&clock, 1, &left), LRU_CLOSED);
-    CHECK(lru_clock_add(&clock, 0, 0, 0, 1, 0).code, LRU_CLOSED);
+    CHECK(lru_clock_add(&clock, 0, 0, 0, 1, 0, false).code, LRU_CLOSED);
+    CHECK(lru_clock_release_and_evict(&clock, 0, &left), LRU_CLOSED);
+    CHECK(lru_clock_reserve(&clock, 1), LRU_CLOSED);
+    CHECK(lru_clock_stats(&clock, &counts), LRU_CLOSED);
     CHECK(lru_clock_find(&clock, 0, 0, 0).code, LRU_CLOSED);
     CHECK(lru_clock_begin(&clock, 0, 0, 0, 1).code, LRU_CLOSED);
-    CHECK(lru_clock_ready(&clock, 0, 0, 1, 0).code, LRU_CLOSED);
+    CHECK(lru_clock_ready(&clock, 0, 0, 1, 0, false).code, LRU_CLOSED);
     CHECK(lru_clock_fail(&clock, 0), LRU_CLOSED);
     CHECK(lru_clock_erase(&clock, 0, 0, 0, &left), LRU_CLOSED);
     CHECK(lru_clock_collect(&clock, 0, &left), LRU_CLOSED);
@@ -99,7 +103,7 @@ static void test_answers(void) {
     CHECK(lru_clock_find(&clock, hash_of(1), 1, ~1ul).code, LRU_MISSED);
     CHECK(lru_clock_erase(&clock, hash_of(1), 1, ~1ul, &left), LRU_DONE);
     CHECK(lru_clock_collect(&clock, 7, &left), LRU_DONE);
-    CHECK(lru_clock_add(&clock, hash_of(1), 1, ~1ul, 0, 5).code, LRU_NO_CHARGE);
+    CHECK(lru_clock_add(&clock, hash_of(1), 1, ~1ul, 0, 5, false).code, LRU_NO_CHARGE);
     CHECK(lru_clock_len(&clock).value, 0);
 
     /* an entry is found by its key alone, and one that the key has is told in place of a new one */
@@ -110,7 +114,7 @@ static void test_answers(void) {
     CHECK(found.value, 10);
     place = found.place;
     CHECK(lru_clock_pinned_charge(&clock).value, 4);
-    found = lru_clock_add(&clock, hash_of(1), 1, ~1ul, 3, 99);
+    found = lru_clock_add(&clock, hash_of(1), 1, ~1ul, 3, 99, true);
     CHECK(found.code, LRU_HIT);
     CHECK(found.value, 10);
     CHECK(found.place, place);
@@ -150,7 +154,7 @@ static void test_answers(void) {
     CHECK(lru_clock_set_capacity(&clock, 1), LRU_DONE);
     CHECK(lru_clock_make_room(&clock, 0, &left), LRU_DONE);
     CHECK(lru_clock_total(&clock).value, 4);
-    CHECK(lru_clock_add(&clock, hash_of(5), 5, ~5ul, UINT64_MAX, 50).code, LRU_OVERFLOW);
+    CHECK(lru_clock_add(&clock, hash_of(5), 5, ~5ul, UINT64_MAX, 50, false).code, LRU_OVERFLOW);
     CHECK(lru_clock_prune(&clock, &next, &left), LRU_DONE);
     CHECK(lru_reader_unpin(&other, found.place), LRU_DONE);
     CHECK(lru_clock_prune(&clock, &next, &left), LRU_GONE);
@@ -166,13 +170,70 @@ static void test_answers(void) {
     CHECK(lru_clock_free(&clock), LRU_DONE);
 }
 
+static void test_limits(void) {
+    lru_clock clock = {0};
+    lru_reader reader = {0};
+    lru_left left = {1, 2, 3};
+    lru_clock_counts counts;
+    lru_found found;
+    CHECK(lru_clock_new(10, &clock), LRU_DONE);
+    CHECK(lru_reader_new(&clock, &reader), LRU_DONE);
+
+    /* room is made for places, and no entry is in them */
+    CHECK(lru_clock_reserve(&clock, 100), LRU_DONE);
+    CHECK(lru_clock_places(&clock).value, 100);
+    CHECK(lru_clock_reserve(&clock, 1), LRU_DONE);
+    CHECK(lru_clock_places(&clock).value, 100);
+    CHECK(lru_clock_len(&clock).value, 0);
+
+    /* a strict add is refused exactly above the capacity, and changes nothing then */
+    adds(&clock, &reader, 1, 8);
+    CHECK(lru_clock_add(&clock, hash_of(4), 4, ~4ul, 3, 40, true).code, LRU_FULL);
+    CHECK(lru_clock_len(&clock).value, 1);
+    CHECK(lru_clock_total(&clock).value, 8);
+    found = lru_clock_add(&clock, hash_of(4), 4, ~4ul, 2, 40, true);
+    CHECK(found.code, LRU_DONE);
+    CHECK(lru_clock_add(&clock, hash_of(4), 4, ~4ul, 1, 41, true).code, LRU_HIT);
+    CHECK(lru_clock_add(&clock, hash_of(5), 5, ~5ul, UINT64_MAX, 50, true).code, LRU_OVERFLOW);
+
+    /* the last pin takes the entry out, and no other does */
+    CHECK(lru_clock_release_and_evict(&clock, found.place, &left), LRU_DONE);
+    CHECK(left.value, 3);
+    CHECK(lru_clock_find(&clock, hash_of(4), 4, ~4ul).value, 40);
+    CHECK(lru_reader_unpin(&reader, found.place), LRU_DONE);
+    CHECK(lru_clock_release_and_evict(&clock, found.place, &left), LRU_GONE);
+    CHECK(left.first == 4 && left.second == ~4ul && left.value == 40, true);
+    CHECK(lru_clock_release_and_evict(&clock, found.place, &left), LRU_STALE);
+    CHECK(lru_clock_release_and_evict(&clock, UINT32_MAX, &left), LRU_STALE);
+    CHECK(lru_clock_find(&clock, hash_of(4), 4, ~4ul).code, LRU_MISSED);
+
+    /* of an invalidated entry too */
+    found = lru_clock_find(&clock, hash_of(1), 1, ~1ul);
+    CHECK(lru_clock_erase(&clock, hash_of(1), 1, ~1ul, &left), LRU_DONE);
+    CHECK(lru_clock_release_and_evict(&clock, found.place, &left), LRU_GONE);
+    CHECK(left.value, 10);
+    adds(&clock, &reader, 6, 4);
+
+    CHECK(lru_clock_stats(&clock, &counts), LRU_DONE);
+    CHECK(counts.makings, 0);
+    CHECK(counts.failures, 0);
+    CHECK(counts.insertions, 3);
+    CHECK(counts.evictions, 2);
+    CHECK(counts.entries, 1);
+    CHECK(counts.charge, 4);
+    CHECK(counts.capacity, 10);
+    CHECK(lru_clock_erase(&clock, hash_of(6), 6, ~6ul, &left), LRU_GONE);
+    CHECK(lru_clock_free(&clock), LRU_DONE);
+    CHECK(lru_reader_free(&reader), LRU_DONE);
+}
+
 static lru_found begins(lru_clock *clock, uint64_t key, uint64_t charge) {
     return lru_clock_begin(clock, hash_of(key), key, ~key, charge);
 }
 
 static lru_found readies(lru_clock *clock, uint64_t ticket, uint64_t key, uint64_t charge,
                          uint64_t value) {
-    return lru_clock_ready(clock, ticket, hash_of(key), charge, value);
+    return lru_clock_ready(clock, ticket, hash_of(key), charge, value, false);
 }
 
 /* Begins a making of a key that nobody makes, of which other callers are told to wait. */
@@ -239,6 +300,15 @@ static void test_makings(void) {
     CHECK(begins(&clock, 1, 1).code, LRU_WAIT);
     CHECK(lru_clock_len(&clock).value, 0);
 
+    /* nor does one end that a strict ready refuses, which it does exactly above the capacity */
+    CHECK(lru_clock_ready(&clock, one, hash_of(1), 101, 10, true).code, LRU_FULL);
+    CHECK(begins(&clock, 1, 1).code, LRU_WAIT);
+    CHECK(lru_clock_total(&clock).value, 0);
+    found = lru_clock_ready(&clock, ticket_of(&clock, 9), hash_of(9), 100, 90, true);
+    CHECK(found.code, LRU_DONE);
+    CHECK(lru_clock_ready(&clock, one, hash_of(1), 1, 10, true).code, LRU_FULL);
+    CHECK(lru_clock_release_and_evict(&clock, found.place, &left), LRU_GONE);
+
     /* its value is stored with the charge of ready, pinned, and found by all; its ticket is used */
     found = readies(&clock, one, 1, 7, 10);
     CHECK(found.code, LRU_DONE);
@@ -294,8 +364,8 @@ static void test_makings(void) {
 
     /* an add that stores nothing leaves the making, and an invalidated one may fail */
     one = ticket_of(&clock, 5);
-    CHECK(lru_clock_add(&clock, hash_of(5), 5, ~5ul, 0, 50).code, LRU_NO_CHARGE);
-    CHECK(lru_clock_add(&clock, hash_of(5), 5, ~5ul, UINT64_MAX, 50).code, LRU_OVERFLOW);
+    CHECK(lru_clock_add(&clock, hash_of(5), 5, ~5ul, 0, 50, false).code, LRU_NO_CHARGE);
+    CHECK(lru_clock_add(&clock, hash_of(5), 5, ~5ul, UINT64_MAX, 50, false).code, LRU_OVERFLOW);
     CHECK(begins(&clock, 5, 1).code, LRU_WAIT);
     CHECK(lru_clock_erase(&clock, hash_of(5), 5, ~5ul, &left), LRU_DONE);
     CHECK(lru_clock_fail(&clock, one), LRU_DONE);
@@ -352,8 +422,9 @@ static bool test_refusal(unsigned which) {
     if (code == LRU_MEMORY)
         CHECK(lru_reader_new(&clock, &reader), LRU_DONE);
     for (key = 0; key < ENTRIES; key++) {
-        lru_found found = key % 2 == 0 ? lru_clock_add(&clock, hash_of(key), key, ~key, 1, key)
-                                       : make(&clock, key);
+        lru_found found = key % 2 == 0
+                              ? lru_clock_add(&clock, hash_of(key), key, ~key, 1, key, false)
+                              : make(&clock, key);
         CHECK(found.code == LRU_DONE || found.code == LRU_MEMORY, true);
         if (found.code == LRU_DONE) {
             stored++;
@@ -372,9 +443,33 @@ static bool test_refusal(unsigned which) {
     return refused == 0;
 }
 
-static unsigned test_refusals(void) {
+/* Reserves room, where one request for memory is refused: a second call makes the rest. Returns
+ * whether that was made at all. */
+static bool test_refused_reserve(unsigned which) {
+    enum { ENTRIES = 300 };
+    lru_clock clock = {0};
+    lru_reader reader = {0};
+    lru_code code;
+    CHECK(lru_clock_new(10, &clock), LRU_DONE);
+    CHECK(lru_reader_new(&clock, &reader), LRU_DONE);
+    refused = which;
+    code = lru_clock_reserve(&clock, ENTRIES);
+    CHECK(code == LRU_DONE || code == LRU_MEMORY, true);
+    CHECK(lru_clock_len(&clock).value, 0);
+    if (code == LRU_MEMORY) {
+        CHECK(lru_clock_places(&clock).value < ENTRIES, true);
+        CHECK(lru_clock_reserve(&clock, ENTRIES), LRU_DONE);
+    }
+    CHECK(lru_clock_places(&clock).value, ENTRIES);
+    CHECK(lru_clock_free(&clock), LRU_DONE);
+    CHECK(lru_reader_free(&reader), LRU_DONE);
+    return refused == 0;
+}
+
+/* Returns how many requests for memory were refused. */
+static unsigned refusals_of(bool (*test)(unsigned)) {
     unsigned which = 1;
-    while (test_refusal(which))
+    while (test(which))
         which++;
     refused = 0;
     return which - 1;
@@ -432,7 +527,7 @@ static void insert(lru_reader *reader, uint64_t key) {
     pthread_mutex_lock(&mutex);
     while (count < KEYS && lru_clock_make_room(&shared_clock, 1, &kept[count]) == LRU_GONE)
         count++;
-    found = lru_clock_add(&shared_clock, hash_of(key), key, ~key, 1, number);
+    found = lru_clock_add(&shared_clock, hash_of(key), key, ~key, 1, number, false);
     pthread_mutex_unlock(&mutex);
     while (count > 0)
         delete_value(&kept[--count]);
@@ -501,7 +596,7 @@ static void make_value(lru_reader *reader, uint64_t key, uint64_t ticket, bool f
         if (!is_lone)
             keys[key].makers--;
     } else {
-        found = lru_clock_ready(&shared_clock, ticket, hash_of(key), 1, number);
+        found = lru_clock_ready(&shared_clock, ticket, hash_of(key), 1, number, false);
         CHECK(found.code, LRU_DONE);
         CHECK(found.value, number);
     }
@@ -587,8 +682,9 @@ static void test_threads(uint64_t capacity, void *(*work)(void *)) {
 int main(void) {
     unsigned refusals;
     test_answers();
+    test_limits();
     test_makings();
-    refusals = test_refusals();
+    refusals = refusals_of(test_refusal) + refusals_of(test_refused_reserve);
     test_threads(KEYS / 2, run);
     test_threads(UINT64_MAX, run_makers);
     if (failures > 0)

@@ -200,6 +200,7 @@ unsafe extern "C" {
         hash: u64,
         charge: u64,
         value: u64,
+        strict: bool,
     ) -> Found;
     pub fn lru_clock_fail(clock: *mut Handle, ticket: u64) -> u32;
     pub fn lru_clock_make_room(clock: *mut Handle, charge: u64, left: *mut Left) -> u32;
@@ -210,6 +211,7 @@ unsafe extern "C" {
         second: u64,
         charge: u64,
         value: u64,
+        strict: bool,
     ) -> Found;
     pub fn lru_clock_find(clock: *mut Handle, hash: u64, first: u64, second: u64) -> Found;
     pub fn lru_clock_erase(

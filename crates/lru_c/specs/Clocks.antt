@@ -3,9 +3,9 @@ use Rattle.std.specs.Prelude.{◌≡◌, ◌==◌, ◌⊎◌, ◌/◌, ◌^◌, 
 use Rattle.std.specs.List.{list_any}
 use Rattle.std.proofs.Math.ListN.{set}
 use Rattle.lru_clock.specs.Begun.{IsBegun}
-use Rattle.lru_clock.specs.Evictions.{places_of}
+use Rattle.lru_clock.specs.Evictions.{places_of, refuses}
 use Rattle.lru_clock.specs.Makings.{HasEnded, has_number, is_of}
-use Rattle.lru_clock.specs.SeatChanges.{Charges}
+use Rattle.lru_clock.specs.SeatChanges.{AddsVacant, Charges}
 use Rattle.lru_clock.specs.Seats.{Seat, seat, LacksKey}
 use Rattle.lru_clock.specs.declared.clock_core.makings.Begun.TheVariants as begun
 use Rattle.lru_clock.specs.declared.shard_state.ShardState.{ShardState}
@@ -16,6 +16,7 @@ use Rattle.lru_c.specs.declared.clock.locked.Clock.{Clock}
 use Rattle.lru_c.specs.declared.clock.locked.ClockNumber.{ClockNumber}
 use Rattle.lru_c.specs.declared.clock.locked.ClockNumber.TheVariants as which
 use Rattle.lru_c.specs.declared.clock.reader.Reader.{Reader}
+use Rattle.lru_c.specs.declared.clock.told.LruClockCounts.{LruClockCounts}
 use Rattle.lru_c.specs.declared.clock.told.LruFound.{LruFound}
 use Rattle.lru_c.specs.declared.words.key.Words.{Words}
 
@@ -54,6 +55,27 @@ LeavesAny c = (c ≡ code.gone) ⊎ (c ≡ code.done)
 abbrev pub LeavesOne : Seats → ℕ → Seats → Type 0
 LeavesOne old c new = ((c ≡ code.gone) × (p : ℕ) × (new ≡ set old p (seat 0 0 None))) ⊎ ((c ≡ code.done) × (new ≡ old))
 
+-- The entry at a place left, whose seat is vacant now; or none did, and nothing changed.
+abbrev pub LeavesAt : ℕ → State → ℕ → State → Type 0
+LeavesAt p old c new = ((c ≡ code.gone) × (new.seats ≡ set old.seats p (seat 0 0 None))) ⊎ ((c ≡ code.done) × (new ≡ old))
+
+-- The same, after a pin of the entry was given back; or there was no pin, and nothing changed.
+abbrev pub ReleasesAt : ℕ → State → ℕ → State → Type 0
+ReleasesAt p old c new = LeavesAt p old c new ⊎ ((c ≡ code.stale) × (new ≡ old))
+
+-- Places were added, perhaps fewer than were asked for if that was refused, and no entry changed.
+abbrev pub Reserves : State → ℕ → State → Type 0
+Reserves old c new = ((c ≡ code.done) ⊎ (c ≡ code.memory) ⊎ (c ≡ code.overflow)) × (new ≡ record old { seats = new.seats; order = new.order }) × AddsVacant old.seats new.seats
+
+-- The counts of a clock, its total and its capacity were told.
+pub record AreCounts (s : State) (t : LruClockCounts) : Type 0 where
+  pub makings : t.makings ≡ s.counts.makings
+  pub failures : t.failures ≡ s.counts.failures
+  pub insertions : t.insertions ≡ s.counts.insertions
+  pub evictions : t.evictions ≡ s.counts.evictions
+  pub charge : t.charge ≡ sum_by (λ seat. seat.charge) s.seats
+  pub capacity : t.capacity ≡ s.capacity
+
 -- a value for the key is being made that later callers wait for
 abbrev pub is_making : Words → State → Bool
 is_making key s = list_any (is_of words_eq key) s.makings
@@ -64,12 +86,14 @@ abbrev pub Erases : ℕ → Words → ℕ → State → Type 0
 Erases hash key c new = LeavesAny c × LacksKey words_eq new.seats (tag_of hash) key × (is_making key new ≡ false)
 
 -- An entry of this charge and value was stored and pinned, and later callers wait for no making of
--- the key; or the key has one, which was looked up; or it is refused. A charge of 0 and a lookup
--- change nothing.
-abbrev pub Adds : Words → ℕ → ℕ → State → LruFound → State → Type 0
-Adds key charge value old t new =
+-- the key; or the key has one, which was looked up; or it is refused, by a strict call if it would
+-- take the total above the capacity, and never otherwise. A charge of 0, a lookup and a strict
+-- refusal change nothing.
+abbrev pub Adds : Words → ℕ → ℕ → Bool → State → LruFound → State → Type 0
+Adds key charge value is_strict old t new =
     MatchBool (charge == 0) ((t ≡ bare_found code.no_charge) × (new ≡ old))
-    (((t.code ≡ code.done) × (t.value ≡ value) × Charges charge t.place old.seats new.seats × (is_making key new ≡ false)) ⊎ ((t.code ≡ code.hit) × (new ≡ old)) ⊎ ((t ≡ bare_found code.overflow) ⊎ (t ≡ bare_found code.memory)))
+    (((t.code ≡ code.hit) × (new ≡ old)) ⊎ (t ≡ bare_found code.overflow) ⊎ MatchBool (refuses is_strict old.capacity old.seats charge) ((t ≡ bare_found code.full) × (new ≡ old))
+    (((t.code ≡ code.done) × (t.value ≡ value) × Charges charge t.place old.seats new.seats × (is_making key new ≡ false)) ⊎ (t ≡ bare_found code.memory)))
 
 -- The key has an entry, which was looked up; or nobody makes its value, and the caller does now,
 -- under a ticket that no other making has; or another caller makes it; or the caller is refused.
@@ -80,11 +104,13 @@ BeginsMaking key charge old t new =
     (((t.code ≡ code.hit) × (new ≡ old)) ⊎ ((t ≡ found code.make t.value 0) × IsBegun {V = ℕ} words_eq key old (begun.Make t.value) new) ⊎ ((t ≡ bare_found code.wait) × IsBegun {V = ℕ} words_eq key old begun.Wait new) ⊎ (((t ≡ bare_found code.overflow) ⊎ (t ≡ bare_found code.memory)) × (new ≡ old)))
 
 -- The making with a ticket has ended, and an entry of this value was stored and pinned, or refused;
--- or no making has the ticket. A charge of 0 and such a ticket change nothing.
-abbrev pub Readies : ℕ → ℕ → ℕ → State → LruFound → State → Type 0
-Readies ticket charge value old t new =
-    MatchBool (charge == 0) ((t ≡ bare_found code.no_charge) × (new ≡ old))
-    (((t.code ≡ code.done) × (t.value ≡ value) × Charges charge t.place old.seats new.seats × HasEnded ticket old.makings new.makings) ⊎ ((t ≡ bare_found code.stale) × (has_number ticket old.makings ≡ false) × (new ≡ old)) ⊎ (((t ≡ bare_found code.overflow) ⊎ (t ≡ bare_found code.memory)) × HasEnded ticket old.makings new.makings))
+-- or no making has the ticket. A strict call is refused exactly if the charge would take the total
+-- above the capacity. A charge of 0, a strict refusal and such a ticket change nothing.
+abbrev pub Readies : ℕ → ℕ → ℕ → Bool → State → LruFound → State → Type 0
+Readies ticket charge value is_strict old t new =
+    MatchBool (charge == 0) ((t ≡ bare_found code.no_charge) × (new ≡ old)) (
+    MatchBool (refuses is_strict old.capacity old.seats charge) ((t ≡ bare_found code.full) × (new ≡ old))
+    (((t.code ≡ code.done) × (t.value ≡ value) × Charges charge t.place old.seats new.seats × HasEnded ticket old.makings new.makings) ⊎ ((t ≡ bare_found code.stale) × (has_number ticket old.makings ≡ false) × (new ≡ old)) ⊎ (((t ≡ bare_found code.overflow) ⊎ (t ≡ bare_found code.memory)) × HasEnded ticket old.makings new.makings)))
 
 -- The making with a ticket has ended; or none has it, and nothing changed. No seat changed.
 abbrev pub Fails : ℕ → State → ℕ → State → Type 0

@@ -390,7 +390,7 @@ impl<V> State<V> {
         };
         let stored = self.store(node, |clock, charge, word| {
             // SAFETY: this state has the only copy of the handle.
-            unsafe { ffi::lru_clock_ready(clock, ticket, route.hash, charge, word) }
+            unsafe { ffi::lru_clock_ready(clock, ticket, route.hash, charge, word, false) }
         });
         match stored {
             Ok(_) => self.made += 1,
@@ -424,7 +424,7 @@ impl<V> State<V> {
         let [first, second] = route.key;
         let stored = self.store(node, |clock, charge, word| {
             // SAFETY: this state has the only copy of the handle.
-            unsafe { ffi::lru_clock_add(clock, route.hash, first, second, charge, word) }
+            unsafe { ffi::lru_clock_add(clock, route.hash, first, second, charge, word, false) }
         });
         self.inserted += u64::from(stored.is_ok());
         (stored, ended)

@@ -1,13 +1,16 @@
 //! The calls of C on clocks and readers.
 ghost use Rattle.std.specs.Prelude.{◌≡◌, ◌==◌, ⊤, None, MatchBool, MatchOption};
-ghost use Rattle.lru_c.specs.Clocks.{bare_found, found, Adds, BeginsMaking, Erases, Fails, Frees, IsLookup, IsNewClock, IsRelease, LeavesAny, LeavesOne, number_of, OnClock, OnReader, Readies};
+ghost use Rattle.lru_c.specs.Clocks.{bare_found, found, number_of, Adds, AreCounts, BeginsMaking};
+ghost use Rattle.lru_c.specs.Clocks.{Erases, Fails, Frees, IsLookup, IsNewClock, IsRelease};
+ghost use Rattle.lru_c.specs.Clocks.{LeavesAt, LeavesOne, OnClock, OnReader, Readies, ReleasesAt};
+ghost use Rattle.lru_c.specs.Clocks.{Reserves};
 ghost use Rattle.lru_c.specs.Codes as codes;
 ghost use Rattle.lru_c.specs.Opened.{Opens};
 ghost use Rattle.lru_c.specs.WordsCalls.{words};
 
 use crate::clock::handles::{LruClock, LruReader};
 use crate::clock::locked::{Clock, ClockNumber};
-use crate::clock::told::{LruFound, LruLeft};
+use crate::clock::told::{LruClockCounts, LruFound, LruLeft};
 use crate::code;
 use crate::handle::{Handle, open_new, take};
 use crate::words::key::Words;
@@ -169,8 +172,9 @@ pub extern "C" fn lru_clock_make_room(clock: &mut LruClock, charge: u64, left: &
 /// Evicts nothing: make room first. If another caller makes a value for the key, later callers wait
 /// for that no more, and only its maker will get it.
 ///
-/// Returns `NO_CHARGE` if the charge is 0, `MEMORY` if the allocator refuses, `OVERFLOW` if a
-/// number would overflow, and `CLOSED` if the handle is not open. The value is not taken then.
+/// Returns `NO_CHARGE` if the charge is 0, `FULL` if the call is strict and the charge would take
+/// the total above the capacity, `MEMORY` if the allocator refuses, `OVERFLOW` if a number would
+/// overflow, and `CLOSED` if the handle is not open. The value is not taken then.
 #[unsafe(no_mangle)]
 pub extern "C" fn lru_clock_add(
     clock: &mut LruClock,
@@ -179,12 +183,13 @@ pub extern "C" fn lru_clock_add(
     second: u64,
     charge: u64,
     value: u64,
+    strict: bool,
 ) -> LruFound
     ensures { OnClock clock.old.clock.held result.code clock.new.clock.held
-        (λ o n. Adds (words first second) charge value o result n) }
+        (λ o n. Adds (words first second) charge value strict o result n) }
 {
     match clock.get_mut() {
-        Some(clock) => clock.add(hash, &Words { first, second }, charge, value),
+        Some(clock) => clock.add(hash, &Words { first, second }, charge, value, strict),
         None => LruFound::bare(code::CLOSED),
     }
 }
@@ -217,10 +222,11 @@ pub extern "C" fn lru_clock_begin(
 /// value and the place. If the key was erased or added meanwhile, the entry is already invalidated,
 /// and only this caller gets it. Evicts nothing.
 ///
-/// Returns `NO_CHARGE` if the charge is 0; the making goes on then. Returns `STALE` if no making
-/// has the ticket, and `CLOSED` if the handle is not open. Returns `MEMORY` if the allocator
-/// refuses, and `OVERFLOW` if a number would overflow; the making has then ended as `fail` ends it.
-/// The value is taken with `DONE` only.
+/// Returns `NO_CHARGE` if the charge is 0, and `FULL` if the call is strict and the charge would
+/// take the total above the capacity, whatever the ticket; a making goes on then. Returns `STALE`
+/// if no making has the ticket, and `CLOSED` if the handle is not open. Returns `MEMORY` if the
+/// allocator refuses, and `OVERFLOW` if a number would overflow; the making has then ended as
+/// `fail` ends it. The value is taken with `DONE` only.
 #[unsafe(no_mangle)]
 pub extern "C" fn lru_clock_ready(
     clock: &mut LruClock,
@@ -228,12 +234,13 @@ pub extern "C" fn lru_clock_ready(
     hash: u64,
     charge: u64,
     value: u64,
+    strict: bool,
 ) -> LruFound
     ensures { OnClock clock.old.clock.held result.code clock.new.clock.held
-        (λ o n. Readies ticket charge value o result n) }
+        (λ o n. Readies ticket charge value strict o result n) }
 {
     match clock.get_mut() {
-        Some(clock) => clock.ready(ticket, hash, charge, value),
+        Some(clock) => clock.ready(ticket, hash, charge, value, strict),
         None => LruFound::bare(code::CLOSED),
     }
 }
@@ -296,6 +303,27 @@ pub extern "C" fn lru_clock_erase(
     }
 }
 
+/// Gives back a pin of the entry at a place, and takes out the entry if nobody else has pinned it.
+/// Returns `GONE` with the entry, or `DONE` if others have pinned it.
+///
+/// Returns `STALE` if no entry is at the place, or it has no pin, and `CLOSED` if the handle is not
+/// open. Nothing changes then.
+#[unsafe(no_mangle)]
+pub extern "C" fn lru_clock_release_and_evict(
+    clock: &mut LruClock,
+    place: u32,
+    left: &mut LruLeft,
+) -> u32
+    ensures told { OnClock clock.old.clock.held result clock.new.clock.held
+        (λ o n. ReleasesAt place o result n) }
+    ensures kept { MatchBool (result == codes.gone) ⊤ (left.new ≡ left.old) }
+{
+    match clock.get_mut() {
+        Some(clock) => clock.release_and_evict(place, left),
+        None => code::CLOSED,
+    }
+}
+
 /// Takes out the entry at a place, if it was invalidated and nobody has pinned it. Returns `GONE`
 /// with the entry, or `DONE` if none left.
 ///
@@ -303,7 +331,7 @@ pub extern "C" fn lru_clock_erase(
 #[unsafe(no_mangle)]
 pub extern "C" fn lru_clock_collect(clock: &mut LruClock, place: u32, left: &mut LruLeft) -> u32
     ensures told { OnClock clock.old.clock.held result clock.new.clock.held
-        (λ o n. LeavesAny result) }
+        (λ o n. LeavesAt place o result n) }
     ensures kept { MatchBool (result == codes.gone) ⊤ (left.new ≡ left.old) }
 {
     match clock.get_mut() {
@@ -319,8 +347,9 @@ pub extern "C" fn lru_clock_collect(clock: &mut LruClock, place: u32, left: &mut
 #[unsafe(no_mangle)]
 pub extern "C" fn lru_clock_prune(clock: &mut LruClock, next: &mut u32, left: &mut LruLeft) -> u32
     ensures told { OnClock clock.old.clock.held result clock.new.clock.held
-        (λ o n. LeavesAny result) }
-    ensures kept { MatchBool (result == codes.gone) ⊤ (left.new ≡ left.old) }
+        (λ o n. LeavesAt next.new o result n) }
+    ensures kept { MatchBool (result == codes.gone) ⊤
+        ((left.new ≡ left.old) × (next.new ≡ next.old)) }
 {
     match clock.get_mut() {
         Some(clock) => clock.prune(next, left),
@@ -343,6 +372,39 @@ pub extern "C" fn lru_clock_set_capacity(clock: &mut LruClock, capacity: u64) ->
         }
         None => code::CLOSED,
     }
+}
+
+/// Adds places until there are as many as `entries`, so that no entry needs memory while the clock
+/// has at most that many.
+///
+/// Returns `DONE`, or `MEMORY` if the allocator refuses, `OVERFLOW` if a clock cannot have as many
+/// places, and `CLOSED` if the handle is not open. No entry changes in any case, but places that
+/// were added stay.
+#[unsafe(no_mangle)]
+pub extern "C" fn lru_clock_reserve(clock: &mut LruClock, entries: usize) -> u32
+    ensures { OnClock clock.old.clock.held result clock.new.clock.held
+        (λ o n. Reserves o result n) }
+{
+    match clock.get_mut() {
+        Some(clock) => clock.reserve(entries),
+        None => code::CLOSED,
+    }
+}
+
+/// Writes what has happened since the clock was opened, and what it holds, and returns `DONE`.
+///
+/// Returns `CLOSED` if the handle is not open. Nothing is written then.
+#[unsafe(no_mangle)]
+pub extern "C" fn lru_clock_stats(clock: &mut LruClock, out: &mut LruClockCounts) -> u32
+    ensures told { OnClock clock.old.clock.held result clock.new.clock.held
+        (λ o n. (result ≡ codes.done) × AreCounts o out.new × (n ≡ o)) }
+    ensures kept { MatchBool (result == codes.done) ⊤ (out.new ≡ out.old) }
+{
+    let Some(clock) = clock.get_mut() else {
+        return code::CLOSED;
+    };
+    *out = clock.counts();
+    code::DONE
 }
 
 /// Returns the sum of the charges of all entries, or `CLOSED` if the handle is not open.

@@ -1,11 +1,13 @@
 //! What the handle of a clock leads to: the entries of a shard, and the state that the lock of the
 //! caller protects.
 ghost use Rattle.std.specs.Prelude.{◌≡◌, ◌==◌, ⊤, [], MatchBool, MatchOption, IfOk};
-ghost use Rattle.lru_c.specs.Clocks.{found, Adds, BeginsMaking, Erases, Fails, IsLookup, LeavesAny, LeavesOne, number_of, Readies};
+ghost use Rattle.lru_c.specs.Clocks.{found, number_of, Adds, AreCounts, BeginsMaking, Erases};
+ghost use Rattle.lru_c.specs.Clocks.{Fails, IsLookup, LeavesAny, LeavesAt, LeavesOne, Readies};
+ghost use Rattle.lru_c.specs.Clocks.{ReleasesAt, Reserves};
 ghost use Rattle.lru_c.specs.Codes as codes;
 
 use crate::clock::reader::{Reader, told_of_lookup};
-use crate::clock::told::{LruFound, LruLeft};
+use crate::clock::told::{LruClockCounts, LruFound, LruLeft};
 use crate::clock::{Entries, tag_of};
 use crate::code;
 use crate::words::key::Words;
@@ -63,8 +65,15 @@ impl Clock {
     }
 
     // Adds an entry and pins it. If the key has an entry, pins that.
-    pub(crate) fn add(&mut self, hash: u64, key: &Words, charge: u64, value: u64) -> LruFound
-        ensures { Adds key.now charge value self.old.state result self.new.state }
+    pub(crate) fn add(
+        &mut self,
+        hash: u64,
+        key: &Words,
+        charge: u64,
+        value: u64,
+        is_strict: bool,
+    ) -> LruFound
+        ensures { Adds key.now charge value is_strict self.old.state result self.new.state }
     {
         if charge == 0 {
             return LruFound::bare(code::NO_CHARGE);
@@ -74,6 +83,9 @@ impl Clock {
             Ok(None) => {}
             Ok(Some((place, value))) => return LruFound::of(code::HIT, value, place),
             Err(_) => return LruFound::bare(code::OVERFLOW),
+        }
+        if self.state.refuses(charge, is_strict) {
+            return LruFound::bare(code::FULL);
         }
         match self
             .entries
@@ -113,11 +125,21 @@ impl Clock {
     }
 
     // Ends a making, and adds the entry of its value and pins it.
-    pub(crate) fn ready(&mut self, ticket: u64, hash: u64, charge: u64, value: u64) -> LruFound
-        ensures { Readies ticket charge value self.old.state result self.new.state }
+    pub(crate) fn ready(
+        &mut self,
+        ticket: u64,
+        hash: u64,
+        charge: u64,
+        value: u64,
+        is_strict: bool,
+    ) -> LruFound
+        ensures { Readies ticket charge value is_strict self.old.state result self.new.state }
     {
         if charge == 0 {
             return LruFound::bare(code::NO_CHARGE);
+        }
+        if self.state.refuses(charge, is_strict) {
+            return LruFound::bare(code::FULL);
         }
         match self
             .entries
@@ -153,20 +175,46 @@ impl Clock {
         write_left(gone, left)
     }
 
-    // Takes out the entry at a place if it was invalidated and nobody has pinned it.
-    pub(crate) fn collect(&mut self, place: u32, left: &mut LruLeft) -> u32
-        ensures leaves { LeavesAny result }
+    // Gives back a pin of the entry at a place, and takes out the entry if nobody else has pinned
+    // it.
+    pub(crate) fn release_and_evict(&mut self, place: u32, left: &mut LruLeft) -> u32
+        ensures releases { ReleasesAt place self.old.state result self.new.state }
         ensures kept { MatchBool (result == codes.gone) ⊤ (left.new ≡ left.old) }
     {
-        write_left(self.entries.take_invalidated(&mut self.state, place), left)
+        match self.entries.end_hold_and_take(&mut self.state, place) {
+            Some(gone) => write_left(gone, left),
+            None => code::STALE,
+        }
+    }
+
+    // Takes out the entry at a place if it was invalidated and nobody has pinned it.
+    pub(crate) fn collect(&mut self, place: u32, left: &mut LruLeft) -> u32
+        ensures leaves { LeavesAt place self.old.state result self.new.state }
+        ensures kept { MatchBool (result == codes.gone) ⊤ (left.new ≡ left.old) }
+    {
+        let gone = self.entries.take_invalidated(&mut self.state, place);
+        write_left(gone, left)
     }
 
     // Evicts the first entry that nobody has pinned, from the place `next` on.
     pub(crate) fn prune(&mut self, next: &mut u32, left: &mut LruLeft) -> u32
-        ensures leaves { LeavesAny result }
-        ensures kept { MatchBool (result == codes.gone) ⊤ (left.new ≡ left.old) }
+        ensures leaves { LeavesAt next.new self.old.state result self.new.state }
+        ensures kept { MatchBool (result == codes.gone) ⊤
+            ((left.new ≡ left.old) × (next.new ≡ next.old)) }
     {
-        write_left(self.entries.take_next_idle(&mut self.state, next), left)
+        let gone = self.entries.take_next_idle(&mut self.state, next);
+        write_left(gone, left)
+    }
+
+    // Adds places until there are as many as `entries`.
+    pub(crate) fn reserve(&mut self, entries: usize) -> u32
+        ensures { Reserves self.old.state result self.new.state }
+    {
+        match self.entries.grow_to(&mut self.state, entries) {
+            Ok(()) => code::DONE,
+            Err(Refusal::Memory) => code::MEMORY,
+            Err(_) => code::OVERFLOW,
+        }
     }
 
     pub(crate) fn set_capacity(&mut self, capacity: u64)
@@ -184,6 +232,22 @@ impl Clock {
             ClockNumber::Capacity => self.state.capacity,
             ClockNumber::Places => self.state.seats.places() as u64,
         })
+    }
+
+    // Returns what has happened since the clock was opened, and what it holds.
+    pub(crate) fn counts(&self) -> LruClockCounts
+        ensures { AreCounts self.now.state result }
+    {
+        let numbers = self.state.numbers();
+        LruClockCounts {
+            makings: numbers.counts.makings,
+            failures: numbers.counts.failures,
+            insertions: numbers.counts.insertions,
+            evictions: numbers.counts.evictions,
+            entries: numbers.entries as u64,
+            charge: numbers.total,
+            capacity: numbers.capacity,
+        }
     }
 
     // Returns whether no value is being made.

@@ -52,3 +52,24 @@ pub struct LruLeft {
     /// The value.
     pub value: u64,
 }
+
+/// What has happened in a clock since it was opened, and what it holds. A count that passes
+/// `u64::MAX` starts again at 0.
+#[repr(C)]
+#[derive(Clone, Copy, PartialEq, Eq)]
+pub struct LruClockCounts {
+    /// Makings whose value was stored.
+    pub makings: u64,
+    /// Makings that failed, or whose value was refused.
+    pub failures: u64,
+    /// Entries that `add` stored.
+    pub insertions: u64,
+    /// Entries that have left.
+    pub evictions: u64,
+    /// Entries present.
+    pub entries: u64,
+    /// The sum of their charges.
+    pub charge: u64,
+    /// The capacity.
+    pub capacity: u64,
+}
