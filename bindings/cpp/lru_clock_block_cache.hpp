@@ -166,8 +166,8 @@ class ClockBlocks {
 
   // With the mutexes.
 
-  // Gives a handle back, evicts the entry if that was the last one, and returns whether it has left
-  // the cache.
+  // Gives a handle back, takes the entry away from its key, and returns whether it has left the
+  // cache, as it does with its last handle.
   [[gnu::noinline]] bool ReleaseAndEvict(Entry* entry) {
     if (!entry->is_cached) return ReleaseUncached(entry);
     return Call(this, &shards_[entry->shard]).ReleaseAndEvict(entry);
