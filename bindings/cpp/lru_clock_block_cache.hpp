@@ -118,13 +118,9 @@ class ClockBlocks {
   // thread changes the shard, and misses one that has about 2^30 handles.
   Entry* Find(const Slice& key) const {
     const ClockKey hashed = Hashed(key);
-    lru_reader* const mine = shards_.mine(hashed.shard);
-    lru_found found = Shards::pin(mine, hashed);
-    if (found.code == LRU_CLOSED) found = shards_.find_locked(hashed, mine);
-    if (found.code != LRU_HIT) return nullptr;
-    auto* entry = node_of<Entry>(found.value);
-    entry->SetPlace(found.place);
-    return entry;
+    const lru_found found = Shards::pin(shards_.mine(hashed.shard), hashed);
+    if (found.code == LRU_CLOSED) return FindLocked(key);
+    return Told(found);
   }
 
   // Another handle of an entry, unless it has about 2^30.
@@ -389,7 +385,20 @@ class ClockBlocks {
   };
 
  private:
-  // These are not inlined, so that a release that does not call them saves no registers for them.
+  // The entry of a pin, or null if the look-up told none.
+  static Entry* Told(const lru_found& found) {
+    if (found.code != LRU_HIT) return nullptr;
+    auto* entry = node_of<Entry>(found.value);
+    entry->SetPlace(found.place);
+    return entry;
+  }
+
+  // These are not inlined, so that a hit and a release save no registers for them.
+  [[gnu::cold, gnu::noinline]] Entry* FindLocked(const Slice& key) const {
+    const ClockKey hashed = Hashed(key);
+    return Told(shards_.find_locked(hashed, shards_.mine(hashed.shard)));
+  }
+
   [[gnu::cold, gnu::noinline]] static bool ReleaseUncached(Entry* entry) {
     if (entry->other_handles-- > 0) return false;
     delete entry;
