@@ -529,10 +529,7 @@ int main() {
   for (const NewCache new_cache : {Any, Blocks, Clock}) {
     Differences(new_cache);
     if (new_cache != Clock) EqualsOwn(new_cache);
-    // ThreadSanitizer does not see the atomics of the library, which order what threads do.
-#ifdef __SANITIZE_THREAD__
-    if (new_cache == Clock) continue;
-#endif
+    if (new_cache == Clock && kHasThreadSanitizer) continue;
     Threads(new_cache, 4);
     Threads(new_cache, kThreads);
   }

@@ -1666,10 +1666,9 @@ int main() {
     for (const std::size_t shards : {1u, 4u, 64u}) {
       Threads(lru::NewRocksDBCache(kThreadsCapacity, shards), count);
       Threads(lru::NewRocksDBBlockCache(kThreadsCapacity, shards), count);
-      // ThreadSanitizer does not see the atomics of the library, which order what threads do.
-#ifndef __SANITIZE_THREAD__
-      Threads(lru::NewRocksDBClockCache(kThreadsCapacity, shards), count);
-#endif
+      if (!kHasThreadSanitizer) {
+        Threads(lru::NewRocksDBClockCache(kThreadsCapacity, shards), count);
+      }
     }
   }
   // Each shard has a cache, a chain and two tables, or a clock and a reader.
