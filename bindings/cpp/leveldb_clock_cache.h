@@ -23,8 +23,7 @@
 //    that is there. The database reads the block then, as after any miss.
 //  - Insert makes room while an older entry of the key counts.
 //  - An entry has at most about 2^30 handles. Then Lookup does not find it.
-//  - A new cache has no tables, and the typical charge only chooses the number of shards. While a
-//    table grows, only calls that take the mutex wait.
+//  - While a table grows, only calls that take the mutex wait.
 //
 // Among 100,000 entries, one takes about 200 bytes of memory beside its value. They count only with
 // the option charges_metadata.
@@ -69,7 +68,7 @@ class LevelDBClockCache : public leveldb::Cache {
   }
   static LevelDBClockCache* New(const BlockCacheOptions& options, Seed seed) noexcept {
     auto* cache = new (std::nothrow) LevelDBClockCache(options, seed);
-    if (cache == nullptr || cache->blocks_.Open(options.capacity)) return cache;
+    if (cache == nullptr || cache->blocks_.Open(options, cache->metadata_)) return cache;
     delete cache;
     return nullptr;
   }

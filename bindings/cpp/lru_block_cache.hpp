@@ -29,10 +29,11 @@ struct BlockCacheOptions {
   std::size_t shards = 0;
 
   // The charge that most entries have, usually the size of a block. A new cache has tables for as
-  // many such entries as the capacity has room for, which take from 48 to 80 bytes for each. Until
-  // there are more entries, no Insert makes a table larger, which takes about 70 nanoseconds for
-  // each entry of the shard while its mutex is held. If there is no memory for the tables, the
-  // cache is not created. If this is 0, it is 4 KiB, but the tables are for 2^21 entries at most.
+  // many such entries as the capacity has room for, which take from 48 to 80 bytes for each, and in
+  // a cache over the clock from 122 to 154. Until there are more entries, no Insert makes a table
+  // larger, which takes about 70 nanoseconds for each entry of the shard while its mutex is held.
+  // If there is no memory for the tables, the cache is not created. If this is 0, it is 4 KiB, but
+  // the tables are for 2^21 entries at most.
   std::size_t typical_charge = 0;
 
   // Whether each entry also counts about as many bytes as the cache itself takes for it: 240 under
@@ -87,6 +88,15 @@ struct KeyBehind {
     return Slice(at + sizeof length, length);
   }
 };
+
+// How many entries the options let expect in each of so many shards, if each takes `metadata` of
+// the capacity besides its charge.
+inline std::size_t EntriesIn(const BlockCacheOptions& options, std::size_t metadata,
+                             std::size_t shards) {
+  const auto capacity = static_cast<std::size_t>(share(options.capacity, shards));
+  const std::size_t entries = capacity / SumOf(TypicalCharge(options), metadata);
+  return options.typical_charge == 0 ? std::min(entries, kMostExpected / shards) : entries;
+}
 
 struct NothingMore {};
 
@@ -204,8 +214,7 @@ class Shards {
   bool Open(const BlockCacheOptions& options, std::size_t metadata, Seed seed) {
     seed_ = seed;
     const std::size_t share = Share(options.capacity);
-    std::size_t entries = share / SumOf(TypicalCharge(options), metadata);
-    if (options.typical_charge == 0) entries = std::min(entries, kMostExpected / count_);
+    const std::size_t entries = EntriesIn(options, metadata, count_);
     for (Shard& shard : *this) {
       if (!shard.core.open(share, seed) || shard.core.reserve(entries) != LRU_DONE) return false;
       seed.number++;

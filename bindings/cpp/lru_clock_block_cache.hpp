@@ -97,8 +97,12 @@ class ClockBlocks {
   // The number of shards is at most 256.
   ClockBlocks(std::size_t shards, Seed seed) : shards_(shards, seed) {}
 
-  // False if there is no memory. Comes before all other members, and only once.
-  bool Open(std::size_t capacity) { return shards_.open(capacity); }
+  // False if there is no memory. Each shard has room for as many entries as the options let expect,
+  // each of which takes `metadata` of the capacity besides its charge. Comes before all other
+  // members, and only once.
+  bool Open(const BlockCacheOptions& options, std::size_t metadata) {
+    return shards_.open(options.capacity, EntriesIn(options, metadata, count()));
+  }
 
   // Deletes all entries, even those that are pinned. Their deleters must not call the cache.
   ~ClockBlocks() {
@@ -162,8 +166,8 @@ class ClockBlocks {
 
   // With the mutexes.
 
-  // Gives a handle back, takes the entry away from its key, and returns whether it has left the
-  // cache, as it does with its last handle.
+  // Gives a handle back, evicts the entry if that was the last one, and returns whether it has left
+  // the cache.
   [[gnu::noinline]] bool ReleaseAndEvict(Entry* entry) {
     if (!entry->is_cached) return ReleaseUncached(entry);
     return Call(this, &shards_[entry->shard]).ReleaseAndEvict(entry);
@@ -302,8 +306,7 @@ class ClockBlocks {
       // A visitor may find it at once.
       entry->is_cached = true;
       entry->SetDetached(true);
-      found =
-          lru_clock_ready(&shard_.clock, found.value, key.hash, charge, word_of(entry), false);
+      found = lru_clock_ready(&shard_.clock, found.value, key.hash, charge, word_of(entry), false);
       if (found.code == LRU_DONE) {
         entry->SetPlace(found.place);
         shard_.detached++;
@@ -324,10 +327,9 @@ class ClockBlocks {
       return code == LRU_LAST || leaving_.Has(entry);
     }
 
-    // Gives a pin back, and takes the entry away from its key.
+    // Gives a pin back, evicts the entry if that was its last one, and returns whether it has left.
     bool ReleaseAndEvict(Entry* entry) {
-      if (!entry->is_detached()) Detach(blocks_.Hashed(entry->key()));
-      Unpin(*entry);
+      shard_.unpin_and_evict(entry->place(), &leaving_);
       if (shard_.is_above) EvictAbove();
       return leaving_.Has(entry);
     }

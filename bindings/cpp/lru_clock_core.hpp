@@ -197,8 +197,8 @@ struct alignas(64) ClockShard {
 
   // Pins a new value of a key, or the one that it has: LRU_HIT.
   lru_found add(const ClockKey& key, std::uint64_t charge, Node* node) noexcept {
-    return lru_clock_add(&clock, key.hash, key.words.first, key.words.second, charge, word_of(node),
-                         false);
+    return lru_clock_add(&clock, key.hash, key.words.first, key.words.second, charge,
+                         word_of(node), false);
   }
 
   // Evicts until there is room for another charge, or all that is left is pinned.
@@ -251,6 +251,13 @@ struct alignas(64) ClockShard {
     if (lru_reader_unpin(&reader, place) == LRU_LAST) collect(place, evicted);
   }
 
+  // Gives a pin back, and takes out the value if that was its last pin.
+  template <class Evicted>
+  void unpin_and_evict(std::uint32_t place, Evicted* evicted) noexcept {
+    lru_left left;
+    if (lru_clock_release_and_evict(&clock, place, &left) == LRU_GONE) take(left, evicted);
+  }
+
   // Ends what an unpin without the mutex has begun, which answered with this code: gives the pin
   // back, if the thread's reader was not open, and takes out the value if that was its last pin.
   // Returns what that unpin answered.
@@ -294,13 +301,15 @@ class ClockShards {
   // Neither the number of shards nor that of a shard is above 2^32 - 1.
   ClockShards(std::size_t count, Seed seed) noexcept : seed_(seed), count_(count), lanes_(count) {}
 
-  // False if there is no memory. Comes before all other members, and only once.
-  bool open(std::uint64_t capacity) noexcept {
+  // False if there is no memory. Each shard has room for this many entries. Comes before all other
+  // members, and only once.
+  bool open(std::uint64_t capacity, std::size_t entries = 0) noexcept {
     shards_.reset(new (std::nothrow) Shard[count_]);
     if (shards_ == nullptr) return false;
     for (Shard& shard : *this) {
       if (lru_clock_new(share(capacity, count_), &shard.clock) != LRU_DONE ||
-          lru_reader_new(&shard.clock, &shard.reader) != LRU_DONE) {
+          lru_reader_new(&shard.clock, &shard.reader) != LRU_DONE ||
+          lru_clock_reserve(&shard.clock, entries) != LRU_DONE) {
         return false;
       }
     }

@@ -27,15 +27,12 @@
 //  - Insert makes room while an older entry of the key counts. With the strict limit, an Insert or
 //    a CreateStandalone that is refused has evicted the entries of the shard that are not pinned.
 //    RocksDB's own caches do the same.
-//  - Release with erase_if_last_ref takes the entry away from its key even if it has other handles:
-//    no Lookup finds it from then on, and the last Release deletes it.
 //  - An entry has at most about 2^30 handles. Then Lookup does not find it, and Ref returns false.
 //  - ApplyToAllEntries holds no mutex while the callback runs: the callback may call the cache, and
 //    other threads are not slowed. It needs no memory.
 //  - GetPinnedUsage visits all entries, as that of HyperClockCache does. GetTableAddressCount
 //    returns the greatest number of entries that there were at once.
-//  - A new cache has no tables, and the typical charge only chooses the number of shards. While a
-//    table grows, only calls that take the mutex wait.
+//  - While a table grows, only calls that take the mutex wait.
 //
 // Compared with HyperClockCache: Insert of a key that has an entry replaces that entry, whereas
 // HyperClockCache keeps it. The capacity is not limited by an estimated charge of entries.
@@ -96,7 +93,7 @@ class RocksDBClockCache
   }
   static RocksDBClockCache* New(const RocksDBCacheOptions& options, Seed seed) noexcept {
     auto* cache = new (std::nothrow) RocksDBClockCache(options, seed);
-    if (cache == nullptr || cache->blocks_.Open(options.capacity)) return cache;
+    if (cache == nullptr || cache->blocks_.Open(options, cache->metadata_)) return cache;
     delete cache;
     return nullptr;
   }

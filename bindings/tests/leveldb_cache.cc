@@ -338,6 +338,7 @@ void ExpectsEntries() {
   options.shards = 1;
   options.typical_charge = 1;
   CHECK(lru::NewLevelDBBlockCache(options) == nullptr && lru::NewLevelDBCache(options) == nullptr);
+  CHECK(lru::NewLevelDBClockCache(options) == nullptr);
   options.typical_charge = SIZE_MAX;
   const Tested large(lru::NewLevelDBBlockCache(options), true);
   large.Put("a", "1");

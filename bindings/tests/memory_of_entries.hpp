@@ -49,8 +49,9 @@ MemoryOfEntries MemoryOf(Make make, Insert insert) {
   return memory;
 }
 
-// Whether a cache that has no tables at first takes from `least` to `most` bytes for an entry, and
-// counts about as many on request, to a tenth. Its parameters are those of TakesLittleMemory.
+// Whether a cache over the clock takes from `least` to `most` bytes for an entry, makes no table
+// larger while it has as many entries as its options let expect, and counts what it takes on
+// request, to a tenth. Its parameters are those of TakesLittleMemory.
 template <class Options, class Make, class Insert, class Usage>
 bool TakesWhatItCounts(const char* name, std::size_t least, std::size_t most, Make make,
                        Insert insert, Usage usage) {
@@ -58,14 +59,19 @@ bool TakesWhatItCounts(const char* name, std::size_t least, std::size_t most, Ma
   Options options;
   options.capacity = 2 * kEntries * MemoryOfEntries::kCharge;
   options.shards = 1;
+  options.typical_charge = 2 * MemoryOfEntries::kCharge;
   const auto make_it = [&] { return make(options); };
-  const std::size_t each = MemoryOf(make_it, insert).each;
+  const MemoryOfEntries memory = MemoryOf(make_it, insert);
+  const std::size_t each = memory.each;
+  bool is_right = memory.for_one < 500 && MemoryOfTables(make_it) > 88 * kEntries;
+  options.typical_charge = SIZE_MAX;
+  is_right &= MemoryOf(make_it, insert).for_one > 10000 && MemoryOfTables(make_it) < 100000;
   options.charges_metadata = true;
   const auto cache = make_it();
   for (std::uint64_t n = 0; n < kEntries; n++) insert(cache.get(), n);
   const std::size_t charged = usage(cache.get()) / kEntries - MemoryOfEntries::kCharge;
-  const bool is_right = least <= each && each <= most && charged > each * 9 / 10 &&
-                        charged < each * 11 / 10 && MemoryOfTables(make_it) < 100000;
+  is_right &= least <= each && each <= most && charged > each * 9 / 10 &&
+              charged < each * 11 / 10;
   std::printf("%s: %zu bytes an entry (%zu when charged): %s\n", name, each, charged,
               is_right ? "as it says" : "NOT AS IT SAYS");
   return is_right;
