@@ -9,13 +9,13 @@ use std::sync::Wait;
 // What a visit shows: the number of entries, and by key the value, the charge and the pins that it
 // showed last.
 #[derive(Clone, Copy, Debug, PartialEq, Eq)]
-struct Visits {
+struct Visited {
     entries: u64,
     found: [Option<(u64, u64, u32)>; 6],
 }
 
-fn visits<R: Wait>(cache: &Clock<u64, R>) -> Visits {
-    let mut shown = Visits {
+fn visits<R: Wait>(cache: &Clock<u64, R>) -> Visited {
+    let mut shown = Visited {
         entries: 0,
         found: [None; 6],
     };
@@ -30,7 +30,7 @@ fn visits<R: Wait>(cache: &Clock<u64, R>) -> Visits {
 
 // Of the keys 0 to 5, inserts 0; inserts 1, and holds it twice; inserts 2, holds it, and invalidates
 // it; inserts 3, holds it, and replaces it; and visits the cache while 4 is made.
-fn visits_in_a_making<R: Wait>(cache: &Clock<u64, R>) -> Option<Visits> {
+fn visits_in_a_making<R: Wait>(cache: &Clock<u64, R>) -> Option<Visited> {
     drop(cache.insert(&0, 1, 10));
     let first = cache.insert(&1, 2, 11).ok()?;
     let second = first.try_clone().ok()?;
@@ -48,7 +48,7 @@ fn visits_in_a_making<R: Wait>(cache: &Clock<u64, R>) -> Option<Visits> {
 }
 
 // Does this in a new cache of three shards, and visits it again at the end.
-fn visits_in_new<R: Wait + Drop>(alloc: Global, rt: R) -> Option<[Option<Visits>; 2]> {
+fn visits_in_new<R: Wait + Drop>(alloc: Global, rt: R) -> Option<[Option<Visited>; 2]> {
     let cache: Clock<u64, R> = clock_with_shards(alloc, rt, 300, 3)?;
     let shown = visits_in_a_making(&cache);
     Some([shown, Some(visits(&cache))])
@@ -56,7 +56,7 @@ fn visits_in_new<R: Wait + Drop>(alloc: Global, rt: R) -> Option<[Option<Visits>
 
 #[test]
 fn a_visit_shows_each_entry_that_its_key_finds(rt: HostRuntime) {
-    let held = Visits {
+    let held = Visited {
         entries: 3,
         found: [
             Some((10, 1, 0)),
@@ -67,7 +67,7 @@ fn a_visit_shows_each_entry_that_its_key_finds(rt: HostRuntime) {
             None,
         ],
     };
-    let idle = Visits {
+    let idle = Visited {
         entries: 4,
         found: [
             Some((10, 1, 0)),
