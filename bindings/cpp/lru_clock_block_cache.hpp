@@ -97,11 +97,15 @@ class ClockBlocks {
   // The number of shards is at most 256.
   ClockBlocks(std::size_t shards, Seed seed) : shards_(shards, seed) {}
 
-  // False if there is no memory. Each shard has room for as many entries as the options let expect,
-  // each of which takes `metadata` of the capacity besides its charge. Comes before all other
-  // members, and only once.
+  // False if there is no memory. If the options tell a typical charge, each shard has room for as
+  // many entries as they let expect, each of which takes `metadata` of the capacity besides its
+  // charge. Otherwise the tables grow with the entries, as no hit waits meanwhile. Comes before all
+  // other members, and only once.
   bool Open(const BlockCacheOptions& options, std::size_t metadata) {
-    return shards_.open(options.capacity, EntriesIn(options, metadata, count()));
+    if (options.typical_charge == 0) return shards_.open(options.capacity);
+    const std::size_t entries = EntriesIn(options, metadata, count());
+    // A clock has no more places than this, and would take all memory before it refused more.
+    return entries <= UINT32_MAX && shards_.open(options.capacity, entries);
   }
 
   // Deletes all entries, even those that are pinned. Their deleters must not call the cache.
