@@ -233,6 +233,7 @@ void DeletersMayCall(NewCache new_cache) {
 
 // A cache of blocks returns entries of other keys, and does not cache them.
 void CachesBlocksOnly() {
+  Tested::Deleted();
   for (leveldb::Cache* blocks :
        {lru::NewLevelDBBlockCache(1000), lru::NewLevelDBClockCache(1000)}) {
     const Tested cache(blocks, false);
