@@ -63,7 +63,8 @@ bool TakesWhatItCounts(const char* name, std::size_t least, std::size_t most, Ma
   const auto make_it = [&] { return make(options); };
   const MemoryOfEntries memory = MemoryOf(make_it, insert);
   const std::size_t each = memory.each;
-  bool is_right = memory.for_one < 500 && MemoryOfTables(make_it) > 88 * kEntries;
+  // The first entry also takes the readers of the thread.
+  bool is_right = memory.for_one < 1000 && MemoryOfTables(make_it) > 88 * kEntries;
   options.typical_charge = SIZE_MAX;
   is_right &= MemoryOf(make_it, insert).for_one > 10000 && MemoryOfTables(make_it) < 100000;
   options.charges_metadata = true;

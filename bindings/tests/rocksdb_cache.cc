@@ -43,17 +43,15 @@ void* __wrap_malloc(std::size_t size) { return IsRefused() ? nullptr : __real_ma
 void* __wrap_realloc(void* at, std::size_t size) {
   return IsRefused() ? nullptr : __real_realloc(at, size);
 }
-}
 
-// The shards of a clock and the readers of threads are in such memory. Not inlined, as gcc would
-// take them for mismatched.
-[[gnu::noinline]] void* operator new[](std::size_t size, std::align_val_t align,
-                                       const std::nothrow_t&) noexcept {
-  return IsRefused() ? nullptr : std::aligned_alloc(static_cast<std::size_t>(align), size);
+// Of `operator new[]` for aligned memory, in which the shards of a clock and the readers of threads
+// are. One that replaced it would be defined twice where a sanitizer is linked in.
+void* __real__ZnamSt11align_val_tRKSt9nothrow_t(std::size_t size, std::align_val_t align,
+                                                const std::nothrow_t& no) noexcept;
+void* __wrap__ZnamSt11align_val_tRKSt9nothrow_t(std::size_t size, std::align_val_t align,
+                                                const std::nothrow_t& no) noexcept {
+  return IsRefused() ? nullptr : __real__ZnamSt11align_val_tRKSt9nothrow_t(size, align, no);
 }
-[[gnu::noinline]] void operator delete[](void* at, std::align_val_t) noexcept { std::free(at); }
-[[gnu::noinline]] void operator delete[](void* at, std::size_t, std::align_val_t) noexcept {
-  std::free(at);
 }
 
 namespace {
