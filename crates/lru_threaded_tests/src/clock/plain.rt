@@ -6,7 +6,6 @@
 
 use crate::seeded::player::SLOTS;
 use crate::seeded::said::Said;
-use crate::seeded::view::Walk;
 use crate::threaded::{Then, ThreadedCall};
 use lru_clock::clock::Counts;
 use lru_support::tables::{Answers, text_of};
@@ -94,18 +93,6 @@ impl<S: BuildHasher + Drop> Plain<S> {
             }
         }
         pinned
-    }
-
-    // Goes over the entries that their keys find.
-    fn walk(&self) -> Walk {
-        let mut walk = Walk::new();
-        for entry in self.places.iter().flatten() {
-            if entry.is_found {
-                let pins = u32::try_from(entry.pins).unwrap_or(u32::MAX);
-                walk.add(entry.key, entry.number, entry.charge, pins);
-            }
-        }
-        walk
     }
 
     // Returns the number of entries.
@@ -571,10 +558,9 @@ impl<S: BuildHasher + Drop> Answers<ThreadedCall> for Plain<S> {
         if let ThreadedCall::View = call {
             let (capacity, total, len) = (self.capacity, self.total(), self.len());
             let (is_empty, pinned, counts) = (len == 0, self.pinned(), self.counts);
-            let walk = self.walk();
             return format!(in alloc;
                 "Cache {{ capacity: {capacity}, total_charge: {total}, len: {len} }}, \
-                empty {is_empty}, pinned {pinned}, {walk:?}, {counts:?}"
+                empty {is_empty}, pinned {pinned}, {counts:?}"
             );
         }
         if let ThreadedCall::ResetCounts = call {

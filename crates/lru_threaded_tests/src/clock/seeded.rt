@@ -5,7 +5,7 @@ ghost use Rattle.std.specs.Prelude.{◌<◌};
 use crate::clock::plain::Plain;
 use crate::seeded::agree;
 use crate::seeded::player::Player;
-use crate::seeded::view::{Viewed, Walk};
+use crate::seeded::view::Viewed;
 use lru_clock::clock::Cache;
 use lru_support::drops::{DropLog, Logged};
 use lru_support::hashers::ByOwnNumber;
@@ -17,10 +17,8 @@ use std::test::Fail;
 
 impl<'a, R: Wait + Drop, S: BuildHasher> Viewed<Logged<R>> for &'a Cache<u64, Logged<R>, R, S> {
     fn view(self, alloc: Global) -> Result<String, AllocError> {
-        let mut walk = Walk::new();
-        self.for_each(|key, value, charge, pins| walk.add(*key, value.number(), charge, pins));
         let (is_empty, pinned, counts) = (self.is_empty(), self.pinned_charge(), self.counts());
-        format!(in alloc; "{self:?}, empty {is_empty}, pinned {pinned}, {walk:?}, {counts:?}")
+        format!(in alloc; "{self:?}, empty {is_empty}, pinned {pinned}, {counts:?}")
     }
 
     fn reset(self, alloc: Global) -> Result<String, AllocError> {
