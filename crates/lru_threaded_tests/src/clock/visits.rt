@@ -28,8 +28,8 @@ fn visits<R: Wait>(cache: &Clock<u64, R>) -> Visited {
     shown
 }
 
-// Of the keys 0 to 5, inserts 0; inserts 1, and holds it twice; inserts 2, holds it, and invalidates
-// it; inserts 3, holds it, and replaces it; and visits the cache while 4 is made.
+// Of the keys 0 to 5, inserts 0; inserts 1, and holds it twice; inserts 2, holds it, and
+// invalidates it; inserts 3, holds it, and replaces it; and visits the cache while 4 is made.
 fn visits_in_a_making<R: Wait>(cache: &Clock<u64, R>) -> Option<Visited> {
     drop(cache.insert(&0, 1, 10));
     let first = cache.insert(&1, 2, 11).ok()?;
