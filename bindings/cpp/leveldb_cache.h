@@ -6,9 +6,10 @@
 // LevelDB's block cache has keys of 16 bytes, and LevelDBBlockCache caches only such keys: it
 // stores them as two words, which is faster. LevelDBCache caches keys of any length.
 //
-// Among 100,000 entries, one of a LevelDBBlockCache takes 234 bytes of memory beside its value, one
-// of a LevelDBCache with a key of 20 bytes 297, and one of LevelDB's own with a key of 16 bytes
-// 107. They count only with the option charges_metadata.
+// Among 100,000 entries, one of a LevelDBBlockCache takes 218 bytes of memory beside its value, one
+// of a LevelDBCache with a key of 20 bytes 281, and one of LevelDB's own with a key of 16 bytes
+// 107. They count only with the option charges_metadata. Of the 218 bytes, the node of the proved
+// library takes 112, its tables 58, and what this header has for the entry and its key 48.
 //
 // Like LevelDB's own cache it has 16 shards, each with a mutex, and both choose the same shard for
 // a key. As long as the entries that are pinned at one time fit into the capacity of their shard,
@@ -85,11 +86,11 @@ std::uint32_t HashOf(const Slice& key) {
   return hash ^ hash >> 24;
 }
 
-// Deletes the value of an entry, unless the function is null.
+// Deletes the value of an entry, unless the pointer is null.
 struct LevelDBDeleter {
-  void (*function)(const leveldb::Slice& key, void* value);
+  void (*pointer)(const leveldb::Slice& key, void* value);
   void operator()(const leveldb::Slice& key, void* value) const {
-    if (function != nullptr) function(key, value);
+    if (pointer != nullptr) pointer(key, value);
   }
 };
 
@@ -171,14 +172,15 @@ class BasicLevelDBCache : public leveldb::Cache {
 
   void Release(Handle* handle) override {
     Entry* entry = reinterpret_cast<Entry*>(handle);
-    if (!entry->is_cached) {
+    if (!entry->is_cached()) {
       delete entry;
       return;
     }
     Shard& shard = shards_[entry->shard];
+    const lru_pin pin = entry->pin(shard.core.hash_of(Hashed(entry->key())));
     Evicted evicted;
     const std::lock_guard<detail::Mutex> lock(shard.mutex);
-    shard.core.release(entry->pin(), &evicted);
+    shard.core.release(pin, &evicted);
   }
 
   void* Value(Handle* handle) override { return reinterpret_cast<Entry*>(handle)->value; }

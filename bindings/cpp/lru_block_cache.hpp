@@ -6,6 +6,7 @@
 #define LRU_BLOCK_CACHE_HPP
 
 #include <algorithm>
+#include <atomic>
 #include <cstddef>
 #include <cstdint>
 #include <cstdlib>
@@ -36,8 +37,8 @@ struct BlockCacheOptions {
   // the tables are for 2^21 entries at most, and a cache over the clock has none at first.
   std::size_t typical_charge = 0;
 
-  // Whether each entry also counts about as many bytes as the cache itself takes for it: 240 under
-  // LevelDB and 256 under RocksDB with keys of two words, and more with keys of bytes.
+  // Whether each entry also counts about as many bytes as the cache itself takes for it: 224 under
+  // LevelDB and 240 under RocksDB with keys of two words, and more with keys of bytes.
   bool charges_metadata = false;
 };
 
@@ -98,35 +99,67 @@ inline std::size_t EntriesIn(const BlockCacheOptions& options, std::size_t metad
   return options.typical_charge == 0 ? std::min(entries, kMostExpected / shards) : entries;
 }
 
+// The deleters of all entries of a program, each with a number from 1 on. A program has few of them,
+// so an entry has such a number of one byte in place of a pointer. None is ever removed.
+template <class Deleter>
+class Deleters {
+  using Pointer = decltype(Deleter::pointer);
+
+ public:
+  static constexpr std::uint8_t kNone = 0;
+  // The number for all others, if a program has more deleters.
+  static constexpr std::uint8_t kOther = UINT8_MAX;
+
+  static std::uint8_t NumberOf(Deleter deleter) {
+    if (deleter.pointer == nullptr) return kNone;
+    for (std::uint8_t number = 1; number < kOther; number++) {
+      Pointer there = pointers_[number].load(std::memory_order_relaxed);
+      if (there == deleter.pointer) return number;
+      if (there != nullptr) continue;
+      // Another thread may have been faster, perhaps with the same one.
+      if (pointers_[number].compare_exchange_strong(there, deleter.pointer)) return number;
+      if (there == deleter.pointer) return number;
+    }
+    return kOther;
+  }
+
+  // Of a number below kOther.
+  static Deleter Of(std::uint8_t number) {
+    return {pointers_[number].load(std::memory_order_relaxed)};
+  }
+
+ private:
+  static inline std::atomic<Pointer> pointers_[kOther] = {};
+};
+
 struct NothingMore {};
 
 // An entry, followed by its key. Its destructor calls its deleter with the key and the value.
 // `Slice` is the type of keys of the database, and `More` is what else an entry has.
+//
+// It is packed, as there is such an entry for each block: with a key of 16 bytes and nothing more
+// it has 40 bytes, for which malloc takes 48. The library has the key too, but does not tell it of
+// an entry that leaves, and deleters are called with it. The hash of a pin is made of the key.
 template <class Slice, class Deleter, class More = NothingMore>
 struct BlockEntry : More {
-  // What a hit and its release use is adjacent, so that it touches as few cache lines as possible.
-  // It is packed, as there is such an entry for each block: a pin would take 24 bytes, and a length
-  // another 8.
   void* value;
-  std::uint64_t stamp = 0;
   union {
-    std::uint64_t hash = 0;
+    std::uint64_t stamp = 0;
     BlockEntry* next;  // of an entry that is to be deleted
   };
   std::uint32_t place = 0;
   std::uint8_t shard = 0;
-  bool is_cached = false;
-  bool is_detached = false;  // whether it is in the cache and its key does not find it
-  bool has_words;            // whether the key has 16 bytes; the length of another key precedes it
-  Deleter deleter;
 
   // Null if there is no memory.
   static BlockEntry* New(const Slice& key, void* value, Deleter deleter) {
-    void* at = std::malloc(SizeWith(key.size()));
-    return at == nullptr ? nullptr : ::new (at) BlockEntry(key, value, deleter);
+    const std::uint8_t number = Numbers::NumberOf(deleter);
+    void* at = std::malloc(SizeWith(key.size()) + SizeBefore(number));
+    return at == nullptr ? nullptr : ::new (at) BlockEntry(key, value, deleter, number);
   }
 
-  ~BlockEntry() { deleter(key(), value); }
+  ~BlockEntry() {
+    if (number_ != Numbers::kNone) deleter()(key(), value);
+  }
   static void operator delete(void* at) { std::free(at); }
 
   BlockEntry(const BlockEntry&) = delete;
@@ -137,26 +170,56 @@ struct BlockEntry : More {
     return sizeof(BlockEntry) + KeyBehind<Slice>::SizeOf(length);
   }
 
-  Slice key() const { return KeyBehind<Slice>::Read(this + 1, has_words); }
+  Slice key() const { return KeyBehind<Slice>::Read(Behind() + SizeBefore(number_), has_words_); }
 
-  // Of an entry in the cache.
-  lru_pin pin() const { return {stamp, hash, place}; }
+  Deleter deleter() const {
+    if (number_ != Numbers::kOther) return Numbers::Of(number_);
+    Deleter other;
+    std::memcpy(&other, Behind(), sizeof other);
+    return other;
+  }
+
+  // Leaves the value to the caller: the destructor does not delete it.
+  void KeepValue() { number_ = Numbers::kNone; }
+
+  // Whether it is in the cache; and if so, whether its key does not find it.
+  bool is_cached() const { return is_cached_; }
+  bool is_detached() const { return is_detached_; }
+  void SetDetached() { is_detached_ = true; }
+
+  // Of an entry in the cache, with the hash of its key there.
+  lru_pin pin(std::uint64_t hash) const { return {stamp, hash, place}; }
 
   // Makes it an entry in the cache. A place above 2^32 - 1 is not kept: the wrong one changes no
   // answer, and only a detached entry is looked for by its place.
   void SetPin(const lru_pin& told) {
     const lru_pin pin = copy_of(told);
     stamp = pin.stamp;
-    hash = pin.hash;
     place = static_cast<std::uint32_t>(std::min<std::size_t>(pin.place, UINT32_MAX));
-    is_cached = true;
+    is_cached_ = true;
   }
 
  private:
-  BlockEntry(const Slice& key, void* v, Deleter d)
-      : value(v), has_words(HasWords(key)), deleter(d) {
-    KeyBehind<Slice>::Write(key, this + 1);
+  using Numbers = Deleters<Deleter>;
+
+  BlockEntry(const Slice& key, void* v, Deleter d, std::uint8_t number)
+      : value(v), number_(number), has_words_(HasWords(key)), is_cached_(false) {
+    if (number == Numbers::kOther) std::memcpy(Behind(), &d, sizeof d);
+    KeyBehind<Slice>::Write(key, Behind() + SizeBefore(number));
   }
+
+  // What precedes the key: a deleter that has no number of its own.
+  static constexpr std::size_t SizeBefore(std::uint8_t number) {
+    return number == Numbers::kOther ? sizeof(Deleter) : 0;
+  }
+  char* Behind() { return reinterpret_cast<char*>(this + 1); }
+  const char* Behind() const { return reinterpret_cast<const char*>(this + 1); }
+
+  std::uint8_t number_;  // of the deleter
+  // These two are set before other threads find the entry.
+  const bool has_words_ : 1;  // whether the key has 16 bytes; the length of another key precedes it
+  bool is_cached_ : 1;
+  bool is_detached_ = false;
 };
 
 // How many bytes glibc's malloc takes for a block of this size.

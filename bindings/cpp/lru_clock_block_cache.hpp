@@ -32,7 +32,7 @@ class ClockEntry {
     return at == nullptr ? nullptr : ::new (at) ClockEntry(key, value, deleter, charge);
   }
 
-  ~ClockEntry() { deleter(key(), value); }
+  ~ClockEntry() { deleter_(key(), value); }
   static void operator delete(void* at) { std::free(at); }
 
   ClockEntry(const ClockEntry&) = delete;
@@ -44,6 +44,11 @@ class ClockEntry {
   }
 
   Slice key() const { return KeyBehind<Slice>::Read(this + 1, has_words_); }
+
+  Deleter deleter() const { return deleter_; }
+
+  // Leaves the value to the caller: the destructor does not delete it.
+  void KeepValue() { deleter_.pointer = nullptr; }
 
   // Where the clock of the shard has the entry. Another thread may find it before the one that
   // added it has stored the place, so both do; nobody has a handle without it.
@@ -57,7 +62,11 @@ class ClockEntry {
   void SetDetached(bool is) { is_detached_.store(is, std::memory_order_relaxed); }
 
   void* const value;
-  Deleter deleter;
+
+ private:
+  Deleter deleter_;
+
+ public:
   union {
     std::size_t charge;
     ClockEntry* next;  // of an entry that has left the cache
@@ -69,7 +78,7 @@ class ClockEntry {
 
  private:
   ClockEntry(const Slice& key, void* v, Deleter d, std::size_t c)
-      : value(v), deleter(d), charge(c), has_words_(HasWords(key)) {
+      : value(v), deleter_(d), charge(c), has_words_(HasWords(key)) {
     KeyBehind<Slice>::Write(key, this + 1);
   }
 

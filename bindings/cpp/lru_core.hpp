@@ -80,6 +80,11 @@ inline std::uint64_t saturating_add(std::uint64_t a, std::uint64_t b) noexcept {
   return b > UINT64_MAX - a ? UINT64_MAX : a + b;
 }
 
+// A hash that a cache makes of a word after others, as the library does.
+inline std::uint64_t fold(std::uint64_t hash, std::uint64_t word) noexcept {
+  return lru_hash_multiply(hash ^ word, 0x9e3779b97f4a7c05);
+}
+
 // The part of a capacity that each of so many shards gets: equal ones, rounded up.
 inline std::uint64_t share(std::uint64_t capacity, std::uint64_t shards) noexcept {
   return capacity / shards + (capacity % shards != 0);
@@ -96,6 +101,10 @@ struct Calls<std::string_view> {
   using Hashed = HashedBytes;
 
   static constexpr std::uint32_t kind = LRU_BYTES;
+
+  static std::uint64_t fold(std::uint64_t hash, HashedBytes key) noexcept {
+    return detail::fold(hash, key.hash);
+  }
 
   static HashedBytes hashed(std::string_view key, Seed seed) noexcept {
     return {key, lru_hash_bytes(key.data(), key.size(), seed.number)};
@@ -130,6 +139,10 @@ struct Calls<Words> {
   using Hashed = Words;
 
   static constexpr std::uint32_t kind = LRU_WORDS;
+
+  static std::uint64_t fold(std::uint64_t hash, Words key) noexcept {
+    return detail::fold(detail::fold(hash, key.first), key.second);
+  }
 
   static Words hashed(Words key, Seed) noexcept { return key; }
   static lru_told begin(lru_cache* cache, Words key, std::uint64_t charge, bool strict,
@@ -277,8 +290,17 @@ class Core {
   // Opens the cache. Comes before all other members, and only once. False if there is no memory for
   // it: then only the destructor may follow.
   [[nodiscard]] bool open(std::uint64_t capacity, Seed seed) noexcept {
+    seed_hash_ = fold(0x243f6a8885a308d3, seed.number);
     return lru_chain_new(&chain_) == LRU_DONE &&
            lru_cache_new(Calls::kind, capacity, seed.number, &cache_) == LRU_DONE;
+  }
+
+  // The hash that the pins of a key's entry have. It only says where the library looks first: if it
+  // hashed keys otherwise, this hash would lead nowhere, and a pin would lead to its entry by its
+  // place. Needs no lock.
+  std::uint64_t hash_of(const Hashed& key) const noexcept {
+    const std::uint64_t hash = Calls::fold(seed_hash_, key);
+    return hash << 40 | hash >> 24;
   }
 
   // Closes the cache, and moves all nodes that are left to `evicted`. Later calls do nothing, and
@@ -388,6 +410,7 @@ class Core {
   // Mutable because the calls that only look take a pointer that is not const.
   mutable lru_cache cache_ = {};
   lru_chain chain_ = {};
+  std::uint64_t seed_hash_ = 0;
   bool is_strict_ = false;
 };
 

@@ -185,7 +185,7 @@ class RocksDBClockCache
 
   // Deletes an entry whose value stays the caller's.
   static void Refuse(Entry* entry) {
-    entry->deleter.helper = nullptr;
+    entry->KeepValue();
     delete entry;
   }
 

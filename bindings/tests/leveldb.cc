@@ -204,8 +204,8 @@ int main(int argc, char** argv) {
     return 2;
   }
   const std::string path = argv[1];
-  bool good = IsSmall<lru::LevelDBBlockCache, 16>("LevelDBBlockCache", 242);
-  good &= IsSmall<lru::LevelDBCache, 20>("LevelDBCache", 306);
+  bool good = IsSmall<lru::LevelDBBlockCache, 16>("LevelDBBlockCache", 226);
+  good &= IsSmall<lru::LevelDBCache, 20>("LevelDBCache", 290);
   using Clock = lru::LevelDBClockCache;
   good &= TakesWhatItCounts<lru::BlockCacheOptions>("LevelDBClockCache", 180, 230, Make<Clock>,
                                                     Insert<16>, UsageOf);

@@ -11,6 +11,7 @@
 #include <functional>
 #include <memory>
 #include <string>
+#include <string_view>
 #include <thread>
 #include <utility>
 #include <vector>
@@ -244,6 +245,54 @@ void CachesBlocksOnly() {
       cache.Erase(name);
       cache->Release(handle);
       CHECK(cache.Deleted() == name + "=1 ");
+    }
+  }
+}
+
+// Which of many deleters has deleted which values.
+std::string deleted_by;
+
+template <std::size_t kNumber>
+void DeleteBy(const Slice& key, void* value) {
+  deleted_by += key.ToString().c_str() + std::string(value == &deleted_by ? "=" : "?") +
+                std::to_string(kNumber) + " ";
+}
+
+// More deleters than have numbers of one byte: each entry is deleted by its own.
+template <std::size_t... kNumbers>
+void HasManyDeleters(NewCache new_cache, std::index_sequence<kNumbers...>) {
+  constexpr void (*kDeleters[])(const Slice& key, void* value) = {DeleteBy<kNumbers>...};
+  std::string expected;
+  deleted_by.clear();
+  const Tested cache = new_cache(16000);
+  for (std::size_t n = 0; n < sizeof...(kNumbers); n++) {
+    const std::string name = "key " + std::to_string(n);
+    cache->Release(cache->Insert(cache.Key(name), &deleted_by, 1, kDeleters[n]));
+    Handle* handle = cache.Lookup(name);
+    CHECK(handle != nullptr && cache->Value(handle) == &deleted_by);
+    cache->Release(handle);
+    cache.Erase(name);
+    expected += name + "=" + std::to_string(n) + " ";
+  }
+  CHECK(deleted_by == expected);
+}
+
+// A pin of a key's entry has the hash that Core makes of the key, so that a release that begins
+// with that hash finds the entry where the library looks first.
+template <class Key>
+void MakesHashesOfPins(Key one, Key other) {
+  struct Node {
+    Node* next;
+  };
+  for (const std::uint64_t seed : {std::uint64_t{0}, std::uint64_t{7}, UINT64_MAX}) {
+    lru::detail::Core<Node, Key> core;
+    CHECK(core.open(10, lru::Seed(seed)));
+    lru::detail::Evicted<Node> evicted;
+    for (const Key key : {one, other}) {
+      const auto hashed = lru::detail::Calls<Key>::hashed(key, lru::Seed(3));
+      const lru_told told = core.begin(hashed, 1, &evicted);
+      CHECK(told.code == LRU_MAKE && told.pin.hash == core.hash_of(hashed));
+      core.fail(told.pin);
     }
   }
 }
@@ -535,6 +584,11 @@ int main() {
     Threads(new_cache, 4);
     Threads(new_cache, kThreads);
   }
+  for (const NewCache new_cache : {Own, Any, Blocks, Clock}) {
+    HasManyDeleters(new_cache, std::make_index_sequence<300>());
+  }
+  MakesHashesOfPins<lru::Words>({1, 2}, {UINT64_MAX, 0});
+  MakesHashesOfPins<std::string_view>("a", "a longer key, of 27 letters");
   ReleasesElsewhere();
   CachesBlocksOnly();
   KeepsFewBlocks();

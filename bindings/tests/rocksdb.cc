@@ -611,8 +611,8 @@ int main(int argc, char** argv) {
   }
   const std::string path = argv[1];
   const std::string work_path = path + "/work";
-  all_good &= IsSmall<lru::RocksDBBlockCache>("RocksDBBlockCache", 258);
-  all_good &= IsSmall<lru::RocksDBCache>("RocksDBCache", 306);
+  all_good &= IsSmall<lru::RocksDBBlockCache>("RocksDBBlockCache", 242);
+  all_good &= IsSmall<lru::RocksDBCache>("RocksDBCache", 290);
   using Clock = lru::RocksDBClockCache;
   all_good &= TakesWhatItCounts<lru::RocksDBCacheOptions>("RocksDBClockCache", 180, 230,
                                                           Make<Clock>, InsertNumber, UsageOf);
