@@ -1,176 +1,388 @@
-// Measures get_or_init of threads that mostly hit, for lru::ClockCache and lru::ShardedCache, and
-// for RocksDB's HyperClockCache if its header was there when this was compiled.
+// Compares the clock with RocksDB's HyperClockCache by pairs of runs (pairs.hpp), if RocksDB's
+// header was there when this was compiled, and otherwise with lru::ShardedCache. Keys have 16
+// bytes, values are numbers on the heap, and caches have 16 shards.
 //
-//   clock_bench [ROUNDS]
+//   clock_bench read_mostly [ROUNDS [THREADS..]]    by default 5 rounds, with 1, 2, 4 and 8 threads
+//   clock_bench hits [ROUNDS [ENTRIES..]]           by default 5 rounds, with 1,000, 100,000 and
+//                                                   1,000,000 entries
+//   clock_bench count SYSTEM ENTRIES HITS           makes the hits of one system, for valgrind
 //
-// The keys are below 200,000 and drawn by Zipf's law with the exponent 0.99; values are numbers on
-// the heap; 100,000 of them fit, in 16 shards. First one thread asks for each of 2^20 drawn keys,
-// which fills the cache. Then threads ask for 300,000 of them each, from different ones on. Prints
-// nanoseconds per call of wall time and of processor time, the least of all rounds, and the ratios
-// of ClockCache to the others in each round. The caches take turns, so that all meet the same load
-// of the machine; processor time differs less with it.
+// The systems are the calls of lru.h on clocks and mutexes (c-clock), lru::ClockCache (cpp-clock),
+// lru::ShardedCache (cpp-sharded), and as rocksdb::Cache what lru::NewRocksDBClockCache makes
+// (block-clock), lru::NewRocksDBBlockCache (block-exact), RocksDB's HyperClockCache (rocksdb-hyper)
+// and its LRUCache (rocksdb-sharded).
+//
+// read_mostly_16: keys of 200,000, drawn by Zipf's law with the exponent 0.99, on a cache that has
+// room for 100,000. First one thread asks for each of 2^20 drawn keys, which fills the cache. Then
+// each thread asks for 300,000 of them, each from another one on; what is missing is made.
+// hit_16: one thread asks for a million keys that are there, drawn uniformly.
+//
+// To count the instructions of a hit, with those of the loop around it, divide by HITS what
+//
+//   valgrind --tool=callgrind --callgrind-out-file=/dev/null --toggle-collect='*CallEach*'
+//     build/clock_bench count SYSTEM ENTRIES HITS
+//
+// says that it collected.
 #include <algorithm>
 #include <atomic>
-#include <chrono>
 #include <cmath>
 #include <cstddef>
 #include <cstdint>
 #include <cstdio>
 #include <cstdlib>
+#include <cstring>
 #include <memory>
+#include <mutex>
+#include <numeric>
 #include <string>
-#include <thread>
 #include <vector>
 
+#include "lru.h"
 #include "lru.hpp"
 #include "lru_clock.hpp"
-#include "processor_time.hpp"
+#include "pairs.hpp"
 
 #if __has_include("rocksdb/cache.h")
 #include "rocksdb/cache.h"
+#include "rocksdb_cache.h"
+#include "rocksdb_clock_cache.h"
 #define HAS_ROCKSDB
 #endif
 
 namespace {
 
-constexpr std::uint64_t kKeys = 200000, kCapacity = 100000, kCalls = 300000, kStride = 131072;
-constexpr std::size_t kShards = 16, kDraws = 1 << 20;
+constexpr std::size_t kShards = 16;
 
-// The drawn keys. The ranks of neighbours differ, so that keys that are often drawn lie far apart.
-std::vector<std::uint64_t> draws() {
+// Keys by number, drawn for the threads, each of which begins at another one.
+struct Work {
+  std::string name;
+  std::uint64_t capacity, entries;
+  std::vector<std::uint32_t> fill;  // what is asked for first
+  std::vector<std::uint32_t> keys;
+  std::size_t threads, calls;
+};
+
+std::uint64_t Next(std::uint64_t x) { return x * 6364136223846793005u + 1442695040888963407u; }
+
+Work ReadMostly(std::size_t threads) {
+  constexpr std::uint64_t kKeys = 200000, kCapacity = 100000;
+  constexpr std::size_t kDraws = 1 << 20;
   std::vector<double> total;
   for (std::uint64_t rank = 0; rank < kKeys; rank++) {
     const double weight = std::pow(static_cast<double>(rank + 1), -0.99);
     total.push_back(total.empty() ? weight : total.back() + weight);
   }
-  std::vector<std::uint64_t> keys;
+  Work work = {"read_mostly_16", kCapacity, kCapacity, {}, {}, threads, 300000};
   std::uint64_t x = 1;
   for (std::size_t draw = 0; draw < kDraws; draw++) {
-    x = x * 6364136223846793005u + 1442695040888963407u;
+    x = Next(x);
     const double part = static_cast<double>(x >> 11) / 9007199254740992.0;
     const auto found = std::upper_bound(total.begin(), total.end(), part * total.back());
     const auto rank = static_cast<std::uint64_t>(found - total.begin());
-    keys.push_back(std::min(rank, kKeys - 1) * 130363 % kKeys);
+    // The ranks of neighbours differ, so that keys that are often drawn lie far apart.
+    work.keys.push_back(static_cast<std::uint32_t>(std::min(rank, kKeys - 1) * 130363 % kKeys));
   }
-  return keys;
+  work.fill = work.keys;
+  return work;
+}
+
+Work Hits(std::uint64_t entries, std::size_t calls) {
+  // Twice as many fit, as shards are not filled evenly.
+  Work work = {"hit_16", 2 * entries, entries, {}, {}, 1, calls};
+  work.fill.resize(static_cast<std::size_t>(entries));
+  std::iota(work.fill.begin(), work.fill.end(), 0);
+  std::uint64_t x = 1;
+  for (std::size_t draw = 0; draw < calls; draw++) {
+    x = Next(x);
+    work.keys.push_back(static_cast<std::uint32_t>((x >> 32) * entries >> 32));
+  }
+  return work;
 }
 
 // Makes sure that a value is read.
-void keep(std::uint64_t value) { __asm__ __volatile__("" : : "r"(value) : "memory"); }
+void Keep(std::uint64_t value) { __asm__ __volatile__("" : : "r"(value) : "memory"); }
 
-// Each of these classes has a call that says whether it hit.
+// Each of these classes is a cache, and has a class Caller for the calls of a thread, each of which
+// says whether it hit.
 
-template <class Cache>
-class Ours {
+template <class OneCache>
+class Classes {
  public:
-  bool operator()(std::uint64_t key) {
-    bool is_hit = true;
-    const auto value = cache_.get_or_init(key, 1, [&](std::uint64_t k) {
-      is_hit = false;
-      return k;
-    });
-    keep(*value);
-    return is_hit;
-  }
+  explicit Classes(std::uint64_t capacity) : cache_(capacity, kShards) {}
+
+  class Caller {
+   public:
+    explicit Caller(Classes* classes) : cache_(classes->cache_) {}
+
+    bool operator()(lru::Words key) {
+      bool is_hit = true;
+      const auto value = cache_.get_or_init(key, 1, [&](lru::Words words) {
+        is_hit = false;
+        return words.first;
+      });
+      Keep(*value);
+      return is_hit;
+    }
+
+   private:
+    OneCache& cache_;
+  };
 
  private:
-  Cache cache_{kCapacity, kShards};
+  OneCache cache_;
+};
+
+class CCalls {
+  struct alignas(64) Shard {
+    std::mutex mutex;
+    lru_clock clock = {};
+  };
+
+ public:
+  explicit CCalls(std::uint64_t capacity) {
+    for (Shard& shard : shards_) {
+      if (lru_clock_new(capacity / kShards, &shard.clock) != LRU_DONE) std::exit(1);
+    }
+  }
+
+  ~CCalls() {
+    for (Shard& shard : shards_) {
+      std::uint32_t next = 0;
+      lru_left left;
+      while (lru_clock_prune(&shard.clock, &next, &left) == LRU_GONE) Delete(left.value);
+      lru_clock_free(&shard.clock);
+    }
+  }
+
+  CCalls(const CCalls&) = delete;
+  CCalls& operator=(const CCalls&) = delete;
+
+  class Caller {
+   public:
+    explicit Caller(CCalls* cache) : shards_(cache->shards_) {
+      for (std::size_t n = 0; n < kShards; n++) {
+        const std::lock_guard<std::mutex> lock(shards_[n].mutex);
+        if (lru_reader_new(&shards_[n].clock, &readers_[n]) != LRU_DONE) std::exit(1);
+      }
+    }
+
+    ~Caller() {
+      for (lru_reader& reader : readers_) lru_reader_free(&reader);
+    }
+
+    Caller(const Caller&) = delete;
+    Caller& operator=(const Caller&) = delete;
+
+    bool operator()(lru::Words key) {
+      const std::uint64_t mixed = lru_hash_multiply(key.first, 0x9e3779b97f4a7c05u);
+      const std::uint64_t hash = lru_hash_multiply(mixed ^ key.second, 0xbf58476d1ce4e5b9u);
+      const std::size_t n = hash % kShards;
+      lru_found found = lru_reader_pin(&readers_[n], hash, key.first, key.second);
+      const bool is_hit = found.code == LRU_HIT;
+      if (!is_hit) found = Add(&shards_[n], hash, key);
+      Keep(*reinterpret_cast<std::uint64_t*>(found.value));
+      // No key is erased, so no pin is the last one of an entry that has to be collected.
+      lru_reader_unpin(&readers_[n], found.place);
+      return is_hit;
+    }
+
+   private:
+    static lru_found Add(Shard* shard, std::uint64_t hash, lru::Words key) {
+      const auto value = reinterpret_cast<std::uint64_t>(new std::uint64_t(key.first));
+      std::uint64_t out = 0;
+      lru_found found;
+      {
+        const std::lock_guard<std::mutex> lock(shard->mutex);
+        lru_left left;
+        while (lru_clock_make_room(&shard->clock, 1, &left) == LRU_GONE) {
+          Delete(std::exchange(out, left.value));
+        }
+        found = lru_clock_add(&shard->clock, hash, key.first, key.second, 1, value, false);
+      }
+      Delete(out);
+      if (found.code == LRU_HIT) Delete(value);
+      if (found.code != LRU_HIT && found.code != LRU_DONE) std::exit(1);
+      return found;
+    }
+
+    Shard* shards_;
+    alignas(64) lru_reader readers_[kShards] = {};
+  };
+
+ private:
+  static void Delete(std::uint64_t value) { delete reinterpret_cast<std::uint64_t*>(value); }
+
+  Shard shards_[kShards];
 };
 
 #ifdef HAS_ROCKSDB
-class HyperClock {
+using Cache = rocksdb::Cache;
+
+std::shared_ptr<Cache> NewHyperClock(std::size_t capacity) {
+  return rocksdb::HyperClockCacheOptions(capacity, 1, 4, false, nullptr,
+                                         rocksdb::kDontChargeCacheMetadata)
+      .MakeSharedCache();
+}
+
+std::shared_ptr<Cache> NewLRU(std::size_t capacity) {
+  rocksdb::LRUCacheOptions options;
+  options.capacity = capacity;
+  options.num_shard_bits = 4;
+  options.metadata_charge_policy = rocksdb::kDontChargeCacheMetadata;
+  return rocksdb::NewLRUCache(options);
+}
+
+lru::RocksDBCacheOptions OptionsFor(std::size_t capacity) {
+  lru::RocksDBCacheOptions options;
+  options.capacity = capacity;
+  options.shards = kShards;
+  options.typical_charge = 1;
+  return options;
+}
+
+std::shared_ptr<Cache> NewBlockClock(std::size_t capacity) {
+  return lru::NewRocksDBClockCache(OptionsFor(capacity));
+}
+
+std::shared_ptr<Cache> NewBlockExact(std::size_t capacity) {
+  return lru::NewRocksDBBlockCache(OptionsFor(capacity));
+}
+
+template <std::shared_ptr<Cache> (*kNew)(std::size_t capacity)>
+class AsCache {
  public:
-  bool operator()(std::uint64_t key) {
-    const std::uint64_t bytes[2] = {key, 0};
-    const rocksdb::Slice slice(reinterpret_cast<const char*>(bytes), sizeof bytes);
-    rocksdb::Cache::Handle* handle = cache_->Lookup(slice);
-    const bool is_hit = handle != nullptr;
-    if (!is_hit) {
-      const auto destroy = [](const rocksdb::Slice&, void* value) {
-        delete static_cast<std::uint64_t*>(value);
-      };
-      if (!cache_->Insert(slice, new std::uint64_t(key), 1, destroy, &handle).ok()) std::exit(1);
+  explicit AsCache(std::uint64_t capacity) : cache_(kNew(static_cast<std::size_t>(capacity))) {}
+
+  class Caller {
+   public:
+    explicit Caller(AsCache* as) : cache_(as->cache_.get()) {}
+
+    bool operator()(lru::Words key) {
+      const rocksdb::Slice slice(reinterpret_cast<const char*>(&key), sizeof key);
+      Cache::Handle* handle = cache_->Lookup(slice);
+      const bool is_hit = handle != nullptr;
+      if (!is_hit) {
+        auto* value = new std::uint64_t(key.first);
+        if (!cache_->Insert(slice, value, 1, Delete, &handle).ok()) std::exit(1);
+      }
+      Keep(*static_cast<std::uint64_t*>(cache_->Value(handle)));
+      cache_->Release(handle);
+      return is_hit;
     }
-    keep(*static_cast<std::uint64_t*>(cache_->Value(handle)));
-    cache_->Release(handle);
-    return is_hit;
-  }
+
+   private:
+    static void Delete(const rocksdb::Slice&, void* value) {
+      delete static_cast<std::uint64_t*>(value);
+    }
+
+    Cache* cache_;
+  };
 
  private:
-  std::shared_ptr<rocksdb::Cache> cache_ =
-      rocksdb::HyperClockCacheOptions(kCapacity, 1, 4, false, nullptr,
-                                      rocksdb::kDontChargeCacheMetadata)
-          .MakeSharedCache();
+  std::shared_ptr<Cache> cache_;
 };
 #endif
 
-struct Times {
-  const char* name;
-  std::vector<double> wall, processor;
-  double hit_ratio = 0;
-};
-
-template <class Use>
-void measure(const std::vector<std::uint64_t>& keys, std::size_t threads, Times* times) {
-  Use use;
-  for (const std::uint64_t key : keys) use(key);
-  std::atomic<std::uint64_t> hits{0};
-  const auto start = std::chrono::steady_clock::now();
-  const double processor_start = bench::ProcessorTime();
-  std::vector<std::thread> all;
-  for (std::size_t t = 0; t < threads; t++) {
-    all.emplace_back([&, t] {
-      std::uint64_t mine = 0;
-      for (std::size_t call = 0; call < kCalls; call++) {
-        mine += use(keys[(t * kStride + call) % kDraws]);
-      }
-      hits += mine;
-    });
+// Asks for these keys, and returns how many were there. It is not inlined, so that valgrind knows
+// when it runs.
+template <class Caller>
+[[gnu::noinline]] std::uint64_t CallEach(Caller& call, const Work& work, std::size_t first) {
+  std::uint64_t hits = 0;
+  std::size_t at = first % work.keys.size();
+  for (std::size_t n = 0; n < work.calls; n++) {
+    hits += call(lru::Words{work.keys[at], 0});
+    if (++at == work.keys.size()) at = 0;
   }
-  for (std::thread& thread : all) thread.join();
-  const std::chrono::duration<double, std::nano> time = std::chrono::steady_clock::now() - start;
-  const double calls = static_cast<double>(threads * kCalls);
-  times->wall.push_back(time.count() / calls);
-  times->processor.push_back((bench::ProcessorTime() - processor_start) / calls * 1e9);
-  times->hit_ratio = static_cast<double>(hits) / calls;
+  return hits;
 }
 
-void print(const char* what, const std::vector<double>& ours, const std::vector<double>& times) {
-  std::printf("   %s %6.1f", what, *std::min_element(times.begin(), times.end()));
-  if (&ours == &times) return;
-  for (std::size_t round = 0; round < times.size(); round++) {
-    std::printf("%s%.2f", round == 0 ? " (" : " ", ours[round] / times[round]);
+template <class OneCache>
+bench::Times Measure(const Work& work) {
+  constexpr std::size_t kStride = 131072;
+  OneCache cache(work.capacity);
+  {
+    typename OneCache::Caller call(&cache);
+    for (const std::uint32_t key : work.fill) call(lru::Words{key, 0});
   }
-  std::printf(")");
+  std::atomic<std::uint64_t> hits{0};
+  const auto calls = static_cast<double>(work.threads * work.calls);
+  bench::Times times = bench::TimesOf(work.threads, calls, [&](std::size_t thread) {
+    typename OneCache::Caller call(&cache);
+    hits += CallEach(call, work, thread * kStride);
+  });
+  times.hit_ratio = static_cast<double>(hits) / calls;
+  return times;
+}
+
+struct System {
+  const char* name;
+  bench::Times (*measure)(const Work& work);
+};
+
+// The others are compared with the first.
+constexpr System kSystems[] = {
+#ifdef HAS_ROCKSDB
+    {"rocksdb-hyper", Measure<AsCache<NewHyperClock>>},
+    {"block-clock", Measure<AsCache<NewBlockClock>>},
+    {"block-exact", Measure<AsCache<NewBlockExact>>},
+    {"rocksdb-sharded", Measure<AsCache<NewLRU>>},
+#endif
+    {"cpp-sharded", Measure<Classes<lru::ShardedCache<std::uint64_t, lru::Words>>>},
+    {"cpp-clock", Measure<Classes<lru::ClockCache<std::uint64_t, lru::Words>>>},
+    {"c-clock", Measure<CCalls>},
+};
+
+void Compare(const Work& work, int rounds) {
+  std::vector<bench::System> systems;
+  for (const System& system : kSystems) {
+    systems.push_back({system.name, [&] { return system.measure(work); }});
+  }
+  const std::string what =
+      work.name + " " + std::to_string(work.entries) + " " + std::to_string(work.threads);
+  bench::Compare(systems, what, rounds);
+}
+
+bool Count(const char* name, std::uint64_t entries, std::size_t hits) {
+  for (const System& system : kSystems) {
+    if (std::strcmp(system.name, name) != 0) continue;
+    return system.measure(Hits(entries, hits)).hit_ratio >= 1;
+  }
+  return false;
+}
+
+int Usage() {
+  std::fprintf(stderr,
+               "usage: clock_bench read_mostly [ROUNDS [THREADS..]]\n"
+               "       clock_bench hits [ROUNDS [ENTRIES..]]\n"
+               "       clock_bench count SYSTEM ENTRIES HITS\n");
+  return 2;
 }
 
 }  // namespace
 
 int main(int argc, char** argv) {
-  const int rounds = argc > 1 ? std::atoi(argv[1]) : 5;
-  if (rounds < 1 || argc > 2) {
-    std::fprintf(stderr, "usage: clock_bench [ROUNDS]\n");
-    return 2;
+  const std::string mode = argc > 1 ? argv[1] : "";
+  std::vector<std::uint64_t> numbers;
+  for (int n = mode == "count" ? 3 : 2; n < argc; n++) {
+    numbers.push_back(std::strtoull(argv[n], nullptr, 10));
+    if (numbers.back() == 0 || numbers.back() > 100000000) return Usage();
   }
-  const std::vector<std::uint64_t> keys = draws();
-  for (const std::size_t threads : {1u, 2u, 4u, 8u}) {
-    std::vector<Times> all = {{"ClockCache", {}, {}}, {"ShardedCache", {}, {}}};
-#ifdef HAS_ROCKSDB
-    all.push_back({"HyperClockCache", {}, {}});
-#endif
-    for (int round = 0; round < rounds; round++) {
-      measure<Ours<lru::ClockCache<std::uint64_t, std::uint64_t>>>(keys, threads, &all[0]);
-#ifdef HAS_ROCKSDB
-      measure<HyperClock>(keys, threads, &all[2]);
-#endif
-      measure<Ours<lru::ShardedCache<std::uint64_t, std::uint64_t>>>(keys, threads, &all[1]);
-    }
-    std::printf("%zu threads\n", threads);
-    for (const Times& times : all) {
-      std::printf("  %-15s hits %.3f", times.name, times.hit_ratio);
-      print("wall", all[0].wall, times.wall);
-      print("processor", all[0].processor, times.processor);
-      std::printf("\n");
-    }
+  if (mode == "count") {
+    return numbers.size() == 2 && Count(argv[2], numbers[0], numbers[1]) ? 0 : Usage();
+  }
+  const int rounds = numbers.empty() ? 5 : static_cast<int>(numbers[0]);
+  if (numbers.size() > 1) {
+    numbers.erase(numbers.begin());
+  } else {
+    numbers.clear();
+  }
+  if (mode == "read_mostly") {
+    if (numbers.empty()) numbers = {1, 2, 4, 8};
+    for (const std::uint64_t threads : numbers) Compare(ReadMostly(threads), rounds);
+  } else if (mode == "hits") {
+    if (numbers.empty()) numbers = {1000, 100000, 1000000};
+    for (const std::uint64_t entries : numbers) Compare(Hits(entries, 1000000), rounds);
+  } else {
+    return Usage();
   }
 }

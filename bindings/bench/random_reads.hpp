@@ -6,10 +6,8 @@
 #include <cstdint>
 #include <cstdio>
 #include <string>
-#include <thread>
-#include <vector>
 
-#include "processor_time.hpp"
+#include "pairs.hpp"
 
 namespace bench {
 
@@ -49,17 +47,12 @@ void Read(const Get& get, std::uint64_t seed, std::uint64_t reads, std::uint64_t
   }
 }
 
-// Seconds of processor time per read, once the cache is warm.
+// What a read takes, once the cache is warm.
 template <class Get>
-double TimePerRead(const Get& get, std::size_t threads, std::uint64_t reads, std::uint64_t keys) {
+Times TimesOfReads(const Get& get, std::size_t threads, std::uint64_t reads, std::uint64_t keys) {
   Read(get, 7, reads / 4, keys);
-  const double start = ProcessorTime();
-  std::vector<std::thread> all;
-  for (std::size_t t = 0; t < threads; t++) {
-    all.emplace_back([&, t] { Read(get, 11 + t, reads / threads, keys); });
-  }
-  for (std::thread& thread : all) thread.join();
-  return (ProcessorTime() - start) / static_cast<double>(reads);
+  return TimesOf(threads, static_cast<double>(reads),
+                 [&](std::size_t thread) { Read(get, 11 + thread, reads / threads, keys); });
 }
 
 }  // namespace bench

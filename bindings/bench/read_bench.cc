@@ -50,7 +50,7 @@ void Fill(const std::string& path) {
   for (int turn = 0; turn < 2; turn++) db->CompactRange(nullptr, nullptr);
 }
 
-// Seconds of processor time per read, once the cache is warm.
+// Nanoseconds of processor time per read, once the cache is warm.
 double Measure(const std::string& path, leveldb::Cache* new_cache, std::size_t threads,
                std::uint64_t reads) {
   const std::unique_ptr<leveldb::Cache> cache(new_cache);
@@ -58,18 +58,18 @@ double Measure(const std::string& path, leveldb::Cache* new_cache, std::size_t t
   const auto get = [&](const std::string& key, std::string* value) {
     Check(db->Get(leveldb::ReadOptions(), key, value));
   };
-  return bench::TimePerRead(get, threads, reads, kKeys);
+  return bench::TimesOfReads(get, threads, reads, kKeys).processor;
 }
 
 void Compare(const std::string& path, std::size_t capacity, std::size_t threads, std::size_t pairs,
              std::uint64_t reads) {
-  double own = 1e9, proved = 1e9;
+  double own = 1e18, proved = 1e18;
   for (std::size_t pair = 0; pair < pairs; pair++) {
     own = std::min(own, Measure(path, leveldb::NewLRUCache(capacity), threads, reads));
     proved = std::min(proved, Measure(path, lru::NewLevelDBBlockCache(capacity), threads, reads));
   }
   std::printf("%2zu MiB, %zu thread%s: LevelDB's own %.2f us, this %.2f us, ratio %.2f\n",
-              capacity >> 20, threads, threads == 1 ? " " : "s", own * 1e6, proved * 1e6,
+              capacity >> 20, threads, threads == 1 ? " " : "s", own / 1e3, proved / 1e3,
               proved / own);
 }
 

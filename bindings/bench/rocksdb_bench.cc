@@ -1,24 +1,26 @@
-// Measures random reads of a RocksDB database with these block caches, and with RocksDB's LRU and
-// HyperClock caches.
+// Compares random reads of a RocksDB database with these block caches, and with RocksDB's LRU
+// cache, to those with its HyperClock cache, by pairs of runs (pairs.hpp).
 //
 //   rocksdb_bench FOLDER [ROUNDS [READS [KEYS]]]     creates the database in FOLDER if it does not
 //                                                    exist
 //
-// For each capacity and number of threads, the caches take turns. Prints the processor time per
-// read, the least of all rounds for each cache, and its ratio to that of the LRU cache. Metadata is
-// not charged, so that all have room for as many blocks.
+// reads_all: the cache has room for all blocks, which are some 25 MB of 200,000 keys; reads_tenth:
+// for about a tenth of them. What takes the place of the number of entries is the capacity in MiB.
+// By default there are 5 rounds of 300,000 reads. Metadata is not charged, so that all caches have
+// room for as many blocks. Among the names, block-exact is what lru::NewRocksDBBlockCache makes,
+// and block-clock what lru::NewRocksDBClockCache makes.
 #include <sys/stat.h>
 
-#include <algorithm>
 #include <cstddef>
 #include <cstdint>
 #include <cstdio>
 #include <cstdlib>
-#include <iterator>
 #include <memory>
 #include <string>
 #include <utility>
+#include <vector>
 
+#include "pairs.hpp"
 #include "random_reads.hpp"
 #include "rocksdb/cache.h"
 #include "rocksdb/db.h"
@@ -60,13 +62,13 @@ struct Work {
   std::uint64_t reads, keys;
 };
 
-// Seconds of processor time per read, once the cache is warm.
-double Measure(const Work& work, std::shared_ptr<rocksdb::Cache> cache, std::size_t threads) {
+// What a read takes, once the cache is warm.
+bench::Times Measure(const Work& work, std::shared_ptr<rocksdb::Cache> cache, std::size_t threads) {
   const std::unique_ptr<rocksdb::DB> db = Open(work.path, std::move(cache), false);
   const auto get = [&](const std::string& key, std::string* value) {
     Check(db->Get(rocksdb::ReadOptions(), key, value));
   };
-  return bench::TimePerRead(get, threads, work.reads, work.keys);
+  return bench::TimesOfReads(get, threads, work.reads, work.keys);
 }
 
 std::shared_ptr<rocksdb::Cache> NewLRU(std::size_t capacity) {
@@ -82,50 +84,46 @@ std::shared_ptr<rocksdb::Cache> NewHyperClock(std::size_t capacity) {
   return options.MakeSharedCache();
 }
 
-// The caches, each with what it is called. The others are compared with the first.
+// The others are compared with the first.
 struct Compared {
   const char* name;
   std::shared_ptr<rocksdb::Cache> (*make)(std::size_t capacity);
 };
 
 constexpr Compared kCaches[] = {
-    {"LRU", NewLRU},
-    {"HyperClock", NewHyperClock},
-    {"this LRU", [](std::size_t capacity) { return lru::NewRocksDBBlockCache(capacity); }},
-    {"this clock", [](std::size_t capacity) { return lru::NewRocksDBClockCache(capacity); }}};
+    {"rocksdb-hyper", NewHyperClock},
+    {"rocksdb-sharded", NewLRU},
+    {"block-exact", [](std::size_t capacity) { return lru::NewRocksDBBlockCache(capacity); }},
+    {"block-clock", [](std::size_t capacity) { return lru::NewRocksDBClockCache(capacity); }}};
 
-void Compare(const Work& work, std::size_t capacity, std::size_t threads, int rounds) {
-  double least[std::size(kCaches)];
-  std::fill(std::begin(least), std::end(least), 1e9);
-  for (int round = 0; round < rounds; round++) {
-    for (std::size_t i = 0; i < std::size(kCaches); i++) {
-      least[i] = std::min(least[i], Measure(work, kCaches[i].make(capacity), threads));
-    }
+void Compare(const Work& work, const char* name, std::size_t mebibytes, std::size_t threads,
+             int rounds) {
+  std::vector<bench::System> systems;
+  for (const Compared& cache : kCaches) {
+    systems.push_back({cache.name, [&work, &cache, mebibytes, threads] {
+                         return Measure(work, cache.make(mebibytes << 20), threads);
+                       }});
   }
-  std::printf("%2zu MiB, %zu thread%s:", capacity >> 20, threads, threads == 1 ? " " : "s");
-  for (std::size_t i = 0; i < std::size(kCaches); i++) {
-    std::printf("%s %s %.2f us", i == 0 ? "" : ",", kCaches[i].name, least[i] * 1e6);
-    if (i > 0) std::printf(" (%.2f)", least[i] / least[0]);
-  }
-  std::printf("\n");
+  const std::string what =
+      std::string(name) + " " + std::to_string(mebibytes) + " " + std::to_string(threads);
+  bench::Compare(systems, what, rounds);
 }
 
 }  // namespace
 
 int main(int argc, char** argv) {
-  const int rounds = argc > 2 ? std::atoi(argv[2]) : 7;
+  const int rounds = argc > 2 ? std::atoi(argv[2]) : 5;
   Work work = {argc > 1 ? argv[1] : "", 300000, 200000};
   if (argc > 3) work.reads = std::strtoull(argv[3], nullptr, 10);
   if (argc > 4) work.keys = std::strtoull(argv[4], nullptr, 10);
-  if (argc < 2 || argc > 5 || rounds < 1 || work.reads < 4 || work.keys < 10) {
+  if (argc < 2 || argc > 5 || rounds < 1 || work.reads < 8 || work.keys < 10) {
     std::fprintf(stderr, "usage: rocksdb_bench FOLDER [ROUNDS [READS [KEYS]]]\n");
     return 2;
   }
   struct stat found;
   if (stat(work.path.c_str(), &found) != 0) Fill(work.path, work.keys);
-  for (const std::size_t mebibytes : {2u, 8u, 64u}) {
-    for (const std::size_t threads : {1u, 4u}) {
-      Compare(work, mebibytes << 20, threads, rounds);
-    }
+  for (const std::size_t threads : {1u, 4u, 8u}) {
+    Compare(work, "reads_all", 64, threads, rounds);
+    Compare(work, "reads_tenth", 2, threads, rounds);
   }
 }

@@ -99,8 +99,8 @@ inline std::size_t EntriesIn(const BlockCacheOptions& options, std::size_t metad
   return options.typical_charge == 0 ? std::min(entries, kMostExpected / shards) : entries;
 }
 
-// The deleters of all entries of a program, each with a number from 1 on. A program has few of them,
-// so an entry has such a number of one byte in place of a pointer. None is ever removed.
+// The deleters of all entries of a program, each with a number from 1 on. A program has few of
+// them, so an entry has such a number of one byte in place of a pointer. None is ever removed.
 template <class Deleter>
 class Deleters {
   using Pointer = decltype(Deleter::pointer);

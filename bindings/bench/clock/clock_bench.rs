@@ -1,8 +1,16 @@
-//! Measures a hit among 100,000 entries, with the drop of what it returns: of the caches of this
-//! crate, and of Debian's crate `lru` in a `Mutex`, whose values are cloned `Arc`s. Prints the
-//! nanoseconds per hit of each thread, with one thread and with four: in the round that took least,
-//! and the median of all rounds. Rounds are short, so that some of them are not interrupted.
+//! Compares a hit, with the drop of what it returns, of the caches of this crate with one of
+//! Debian's crate `lru` in a `Mutex`, whose values are cloned `Arc`s: among 1,000 and 100,000
+//! entries, with one thread and with four, by pairs of runs, since a machine that is shared has
+//! slow minutes.
+//!
+//! `clock_bench [ROUNDS]`: by default 301. Rounds are short, so that some are not interrupted.
+//!
+//! Prints for each cache the median of the nanoseconds that a call takes on its thread, as
+//! `NAME get ENTRIES THREADS NANOSECONDS`, and for those of this crate the median of their ratios,
+//! each of a time and the mean of the other's before and after it, and between which ratios half of
+//! them lie.
 
+use std::env;
 use std::hint::black_box;
 use std::num::NonZeroUsize;
 use std::sync::{Arc, Barrier, Mutex};
@@ -12,77 +20,135 @@ use std::time::Instant;
 use concurrent_lru_proved::{Refusal, clock, sharded, unsharded};
 use lru::LruCache;
 
-const ENTRIES: u64 = 100_000;
 const HITS: u64 = 10_000;
-const ROUNDS: usize = 301;
 
-/// Calls `hit` with keys in no order, and prints the nanoseconds that each call takes.
-fn measure(name: &str, threads: u64, hit: impl Fn(u64) -> u64 + Sync) {
-    let mut times: Vec<f64> = (0..ROUNDS as u64)
-        .map(|round| {
-            let start = Barrier::new(threads as usize);
-            let (start, hit) = (&start, &hit);
-            let times: Vec<f64> = thread::scope(|scope| {
-                let threads: Vec<_> = (1..=threads)
-                    .map(|thread| scope.spawn(move || time_of(8 * round + thread, start, hit)))
-                    .collect();
-                threads
-                    .into_iter()
-                    .filter_map(|it| it.join().ok())
-                    .collect()
-            });
-            times.iter().sum::<f64>() / threads as f64
-        })
-        .collect();
-    times.sort_by(f64::total_cmp);
-    let (least, median) = (times[0], times[ROUNDS / 2]);
-    println!("{threads} threads, {name:<20} {least:6.1} ns, median {median:6.1} ns");
+/// A cache, and what makes all calls of a thread with so many keys, in an order that depends on a
+/// seed.
+struct System<'a> {
+    name: &'static str,
+    call_all: Box<dyn Fn(u64, u64) + Sync + 'a>,
 }
 
-fn time_of(seed: u64, start: &Barrier, hit: &impl Fn(u64) -> u64) -> f64 {
-    let mut random = seed.wrapping_mul(0x9e37_79b9_7f4a_7c15);
-    let mut sum = 0;
-    start.wait();
-    let begin = Instant::now();
-    for _ in 0..HITS {
-        random ^= random << 13;
-        random ^= random >> 7;
-        random ^= random << 17;
-        sum += hit((random >> 11) % ENTRIES);
+/// A cache whose call returns the value of a key.
+fn system<'a>(name: &'static str, call: impl Fn(u64) -> Option<u64> + Sync + 'a) -> System<'a> {
+    let call_all = move |seed: u64, entries| {
+        let mut random = seed.wrapping_mul(0x9e37_79b9_7f4a_7c15);
+        let mut sum = 0;
+        for _ in 0..HITS {
+            random ^= random << 13;
+            random ^= random >> 7;
+            random ^= random << 17;
+            sum += call((random >> 11) % entries).expect("each key is there");
+        }
+        black_box(sum);
+    };
+    System {
+        name,
+        call_all: Box::new(call_all),
     }
-    black_box(sum);
-    begin.elapsed().as_secs_f64() * 1e9 / HITS as f64
 }
 
-fn main() -> Result<(), Refusal> {
-    // Shards are not filled evenly.
+/// Returns the nanoseconds that a call takes on its thread.
+fn time_of_run(system: &System, entries: u64, threads: u64, run: u64) -> f64 {
+    let start = Barrier::new(threads as usize);
+    let times: Vec<f64> = thread::scope(|scope| {
+        let threads: Vec<_> = (1..=threads)
+            .map(|thread| {
+                let start = &start;
+                scope.spawn(move || {
+                    start.wait();
+                    let begin = Instant::now();
+                    (system.call_all)(8 * run + thread, entries);
+                    begin.elapsed().as_secs_f64() * 1e9 / HITS as f64
+                })
+            })
+            .collect();
+        let ended = threads.into_iter().map(|it| it.join());
+        ended.collect::<Result<_, _>>().expect("each key is there")
+    });
+    times.iter().sum::<f64>() / threads as f64
+}
+
+/// The number below which this part of the numbers lies.
+fn quantile(numbers: &mut [f64], part: f64) -> f64 {
+    numbers.sort_by(f64::total_cmp);
+    numbers[(part * (numbers.len() - 1) as f64).round() as usize]
+}
+
+/// Runs the first system before and after each run of another one.
+fn compare(systems: &[System], entries: u64, threads: u64, rounds: u64) {
+    let mut times = vec![Vec::new(); systems.len()];
+    let mut ratios = vec![Vec::new(); systems.len()];
+    let mut run = 0;
+    let mut time_of = |n: usize| {
+        run += 1;
+        let time = time_of_run(&systems[n], entries, threads, run);
+        times[n].push(time);
+        time
+    };
+    let mut before = time_of(0);
+    for _ in 0..rounds {
+        for n in 1..systems.len() {
+            let own = time_of(n);
+            let after = time_of(0);
+            ratios[n].push(2.0 * own / (before + after));
+            before = after;
+        }
+    }
+    for (System { name, .. }, times) in systems.iter().zip(&mut times) {
+        println!("{name} get {entries} {threads} {:.1}", quantile(times, 0.5));
+    }
+    for (System { name, .. }, ratios) in systems.iter().zip(&mut ratios).skip(1) {
+        let (low, high) = (quantile(ratios, 0.25), quantile(ratios, 0.75));
+        println!(
+            "# get {entries} {threads}, {name} to {}: {:.2} (half of them {low:.2} to {high:.2})",
+            systems[0].name,
+            quantile(ratios, 0.5)
+        );
+    }
+}
+
+fn compare_among(entries: u64, rounds: u64) -> Result<(), Refusal> {
+    // Twice as many fit, as shards are not filled evenly.
     let shards = NonZeroUsize::MIN.saturating_add(15);
-    let clock = clock::Cache::<u64, u64>::with_shards(2 * ENTRIES, shards)?;
-    let sharded = sharded::LruCache::<u64, u64>::with_shards(2 * ENTRIES, shards)?;
-    let unsharded = unsharded::LruCache::<u64, u64>::new(2 * ENTRIES)?;
-    let mut lru = LruCache::new(2 * ENTRIES as usize);
-    for key in 0..ENTRIES {
+    let clock = clock::Cache::<u64, u64>::with_shards(2 * entries, shards)?;
+    let sharded = sharded::LruCache::<u64, u64>::with_shards(2 * entries, shards)?;
+    let unsharded = unsharded::LruCache::<u64, u64>::new(2 * entries)?;
+    let mut lru = LruCache::new(2 * entries as usize);
+    for key in 0..entries {
         clock.insert(&key, 1, key)?;
         sharded.insert(&key, 1, key)?;
         unsharded.insert(&key, 1, key)?;
         lru.put(key, Arc::new(key));
     }
     let lru = Mutex::new(lru);
+    let systems = [
+        system("mutex-lru", |key| {
+            let value = lru.lock().ok()?.get(&key).cloned()?;
+            Some(*value)
+        }),
+        system("rust-clock", |key| {
+            clock.get(&key).ok()?.map(|handle| *handle)
+        }),
+        system("rust-unsharded", |key| {
+            unsharded.get(&key).ok()?.map(|handle| *handle)
+        }),
+        system("rust-sharded", |key| {
+            sharded.get(&key).ok()?.map(|handle| *handle)
+        }),
+    ];
     for threads in [1, 4] {
-        let found = |value: Option<u64>| value.expect("it is there");
-        measure("clock::Cache", threads, |key| {
-            found(clock.get(&key).ok().flatten().map(|handle| *handle))
-        });
-        measure("sharded::LruCache", threads, |key| {
-            found(sharded.get(&key).ok().flatten().map(|handle| *handle))
-        });
-        measure("unsharded::LruCache", threads, |key| {
-            found(unsharded.get(&key).ok().flatten().map(|handle| *handle))
-        });
-        measure("Mutex<lru::LruCache>", threads, |key| {
-            let value = lru.lock().ok().and_then(|mut lru| lru.get(&key).cloned());
-            found(value.map(|value| *value))
-        });
+        compare(&systems, entries, threads, rounds);
     }
     Ok(())
+}
+
+fn main() -> Result<(), Refusal> {
+    let rounds = env::args().nth(1).map_or(Ok(301), |word| word.parse());
+    let Ok(rounds @ 1..) = rounds else {
+        eprintln!("usage: clock_bench [ROUNDS]");
+        std::process::exit(2);
+    };
+    compare_among(1_000, rounds)?;
+    compare_among(100_000, rounds)
 }
