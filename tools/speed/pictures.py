@@ -1,8 +1,9 @@
 #!/usr/bin/env python3
 """usage: pictures.py FOLDER MEASURED..
-Draws three pictures of measured lines, `SYSTEM WORKLOAD ENTRIES THREADS NANOSECONDS` each, which
-stand in one or more files; of several lines of one kind the least counts. In FOLDER:
+Draws pictures of measured lines, `SYSTEM WORKLOAD ENTRIES THREADS NANOSECONDS` each, which stand in
+one or more files; of several lines of one kind the least counts. In FOLDER:
 speed-threads.svg  the time of a call of read_mostly by the number of threads
+speed-blocks.svg   the same, of caches with the interface of RocksDB's
 speed-entries.svg  the time of a hit and of a miss by the number of entries, of one thread
 speed-hits.svg     the time of a call of read_mostly by the hit ratio, in a chart for each capacity:
                    of four threads at the largest, and of one thread at the others
@@ -47,7 +48,12 @@ COLOURS = {
     "rocksdb-hyper": ("#a0267a", "#f08fd0"),
     "tbb": ("#566b1e", "#b9cf70"),
     "caffeine": ("#8b1a1a", "#f28b82"),
+    "block-clock": ("#0a7a4b", "#5fd6a3"),
+    "block-exact": ("#0b62c4", "#6cb6ff"),
 }
+
+# What the picture of caches with RocksDB's interface shows.
+BLOCKS = {"block-clock", "block-exact", "rocksdb-hyper", "rocksdb-sharded"}
 
 OTHER_COLOURS = ("#5a5a5a", "#b4b4b4")
 
@@ -78,6 +84,8 @@ CALLED = {
     "sharded": "16 shards",
     "port-clock": "lru_clock",
     "port-clock-1": "lru_clock, one shard",
+    "block-clock": "NewRocksDBClockCache",
+    "block-exact": "NewRocksDBBlockCache",
     "hyper": "HyperClock",
     "reserved": "room reserved",
 }
@@ -158,6 +166,16 @@ def by_threads(least):
         if work == "read_mostly" and entries == largest and system not in CLOSE
     ]
     return Chart("read_mostly", "threads", lines_of(points), "")
+
+
+def blocks_by_threads(least):
+    """The chart of read_mostly as a rocksdb::Cache, by threads."""
+    points = [
+        (system, threads, ns)
+        for (system, work, _, threads), ns in least.items()
+        if work == "read_mostly_16" and system in BLOCKS
+    ]
+    return Chart("read_mostly as rocksdb::Cache", "threads", lines_of(points), "")
 
 
 def by_entries(least, title, works):
@@ -352,6 +370,9 @@ def main():
     least, ratios = least_of(lines), ratios_of(lines)
     pictures = {
         "speed-threads.svg": ("Time of a call by threads", [by_threads(least)]),
+        "speed-blocks.svg": (
+            "Time of a call by threads, under RocksDB's interface", [blocks_by_threads(least)]
+        ),
         "speed-entries.svg": ("Time of a call by entries, with one thread and one lock", [
             by_entries(least, "Hit", {"hit_get": "", "hit_read": "-read"}),
             by_entries(least, "Miss that evicts an entry", {"miss_evict": ""}),
