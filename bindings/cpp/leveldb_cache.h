@@ -55,7 +55,6 @@
 #include <cstdlib>
 #include <cstring>
 #include <mutex>
-#include <new>
 #include <string_view>
 
 #include "leveldb/cache.h"
@@ -94,41 +93,20 @@ struct LevelDBDeleter {
   }
 };
 
+// Caches for LevelDB have `New` and `ShardsFor` of BlockCacheMaking, and up to 16 shards, as
+// LevelDB's own.
+template <class Self>
+using LevelDBMaking = BlockCacheMaking<Self, BlockCacheOptions, 16, 0>;
+
 }  // namespace detail
 
 // `Key` is how the library stores keys: std::string_view or Words.
 template <class Key>
-class BasicLevelDBCache : public leveldb::Cache {
+class BasicLevelDBCache : public leveldb::Cache,
+                          public detail::LevelDBMaking<BasicLevelDBCache<Key>> {
+  using Making = detail::LevelDBMaking<BasicLevelDBCache<Key>>;
+
  public:
-  // A good number of shards for blocks of this size: the most, from 1 to 16, that leave each shard
-  // the capacity of four blocks. Unless a number is passed, a cache has as many as for blocks of
-  // 4 KiB. A size of 0 counts as 1.
-  static std::size_t ShardsFor(std::size_t capacity, std::size_t block_size = 4096) noexcept {
-    const std::size_t blocks = capacity / std::max<std::size_t>(block_size, 1);
-    return std::clamp<std::size_t>(blocks / 4, 1, kMostShards);
-  }
-
-  // A cache with these options, or null if there is no memory for it. The seed is random unless a
-  // test passes its own.
-  static BasicLevelDBCache* New(const BlockCacheOptions& options) noexcept {
-    return New(options, Seed::random());
-  }
-  static BasicLevelDBCache* New(const BlockCacheOptions& options, Seed seed) noexcept {
-    auto* cache = new (std::nothrow) BasicLevelDBCache(options);
-    if (cache == nullptr || cache->Open(options, seed)) return cache;
-    delete cache;
-    return nullptr;
-  }
-
-  // The same, with a capacity alone, or with a number of shards from 1 to 16; another number counts
-  // as the nearest of these.
-  static BasicLevelDBCache* New(std::size_t capacity) noexcept {
-    return New(BlockCacheOptions{capacity});
-  }
-  static BasicLevelDBCache* New(std::size_t capacity, std::size_t shards) noexcept {
-    return New(BlockCacheOptions{capacity, std::max<std::size_t>(shards, 1)});
-  }
-
   BasicLevelDBCache(const BasicLevelDBCache&) = delete;
   BasicLevelDBCache& operator=(const BasicLevelDBCache&) = delete;
 
@@ -210,8 +188,7 @@ class BasicLevelDBCache : public leveldb::Cache {
   }
 
  private:
-  static constexpr std::size_t kMostShards = 16;
-
+  friend Making;
   using Entry = detail::BlockEntry<leveldb::Slice, detail::LevelDBDeleter>;
   using Core = detail::Core<Entry, Key>;
   // Always declared before the mutex is locked: it is destroyed, and deleters run, after the mutex
@@ -224,14 +201,11 @@ class BasicLevelDBCache : public leveldb::Cache {
     mutable detail::Mutex mutex;
   };
 
-  explicit BasicLevelDBCache(const BlockCacheOptions& options)
-      : shards_(options.shards != 0
-                    ? options.shards
-                    : ShardsFor(options.capacity, detail::TypicalCharge(options))),
-        charges_metadata_(options.charges_metadata) {}
+  BasicLevelDBCache(const BlockCacheOptions& options, Seed seed)
+      : shards_(Making::ShardsOf(options), seed), charges_metadata_(options.charges_metadata) {}
 
-  bool Open(const BlockCacheOptions& options, Seed seed) {
-    return shards_.Open(options, Metadata(sizeof(Words)), seed);
+  bool Open(const BlockCacheOptions& options) {
+    return shards_.Open(options, Metadata(sizeof(Words)));
   }
 
   // What an entry with a key of this length counts besides its charge.
@@ -250,7 +224,7 @@ class BasicLevelDBCache : public leveldb::Cache {
     return shards_.NumberFor(detail::HashOf(key));
   }
 
-  detail::Shards<Shard, kMostShards> shards_;
+  detail::Shards<Shard, Making::kMostShards> shards_;
   const bool charges_metadata_;
   std::atomic<std::uint64_t> last_id_{0};
 };

@@ -41,7 +41,6 @@
 #include <cstddef>
 #include <cstdint>
 #include <cstdlib>
-#include <new>
 
 #include "leveldb/cache.h"
 #include "leveldb/slice.h"
@@ -52,36 +51,8 @@
 
 namespace lru {
 
-class LevelDBClockCache : public leveldb::Cache {
+class LevelDBClockCache : public leveldb::Cache, public detail::LevelDBMaking<LevelDBClockCache> {
  public:
-  // A good number of shards for blocks of this size: the most, from 1 to 16, that leave each shard
-  // the capacity of four blocks. Unless a number is passed, a cache has as many as for blocks of
-  // 4 KiB. A size of 0 counts as 1.
-  static std::size_t ShardsFor(std::size_t capacity, std::size_t block_size = 4096) noexcept {
-    return LevelDBBlockCache::ShardsFor(capacity, block_size);
-  }
-
-  // A cache with these options, or null if there is no memory for it. The seed is random unless a
-  // test passes its own.
-  static LevelDBClockCache* New(const BlockCacheOptions& options) noexcept {
-    return New(options, Seed::random());
-  }
-  static LevelDBClockCache* New(const BlockCacheOptions& options, Seed seed) noexcept {
-    auto* cache = new (std::nothrow) LevelDBClockCache(options, seed);
-    if (cache == nullptr || cache->blocks_.Open(options, cache->metadata_)) return cache;
-    delete cache;
-    return nullptr;
-  }
-
-  // The same, with a capacity alone, or with a number of shards from 1 to 16; another number counts
-  // as the nearest of these.
-  static LevelDBClockCache* New(std::size_t capacity) noexcept {
-    return New(BlockCacheOptions{capacity});
-  }
-  static LevelDBClockCache* New(std::size_t capacity, std::size_t shards) noexcept {
-    return New(BlockCacheOptions{capacity, std::max<std::size_t>(shards, 1)});
-  }
-
   LevelDBClockCache(const LevelDBClockCache&) = delete;
   LevelDBClockCache& operator=(const LevelDBClockCache&) = delete;
 
@@ -124,17 +95,15 @@ class LevelDBClockCache : public leveldb::Cache {
   std::size_t TotalCharge() const override { return blocks_.TotalCharge(); }
 
  private:
+  friend detail::LevelDBMaking<LevelDBClockCache>;
   using Entry = detail::ClockEntry<leveldb::Slice, detail::LevelDBDeleter>;
   using Blocks = detail::ClockBlocks<Entry>;
 
-  static constexpr std::size_t kMostShards = 16;
-
   LevelDBClockCache(const BlockCacheOptions& options, Seed seed)
-      : blocks_(options.shards != 0
-                    ? std::min(options.shards, kMostShards)
-                    : ShardsFor(options.capacity, detail::TypicalCharge(options)),
-                seed),
+      : blocks_(ShardsOf(options), seed),
         metadata_(options.charges_metadata ? detail::ClockMetadata<Entry>() : 0) {}
+
+  bool Open(const BlockCacheOptions& options) { return blocks_.Open(options, metadata_); }
 
   static Handle* HandleOf(Entry* entry) { return reinterpret_cast<Handle*>(entry); }
   static Entry* EntryOf(Handle* handle) { return reinterpret_cast<Entry*>(handle); }

@@ -90,6 +90,58 @@ struct KeyBehind {
   }
 };
 
+// How a cache is made, and with how many shards: from 1 to `kMost`. `Self` has a constructor that
+// takes options and a seed, and a member `Open` that takes the options, and returns false if there
+// is no memory.
+template <class Self, class OptionsOfCache, std::size_t kMost, std::size_t kLeastShare>
+class BlockCacheMaking {
+ public:
+  using Options = OptionsOfCache;
+
+  static constexpr std::size_t kMostShards = kMost;
+
+  // A good number of shards for blocks of this size: the most, from 1 to kMostShards, that leave
+  // each shard the capacity of four blocks, and under RocksDB of 512 KiB. Unless a number is
+  // passed, a cache has as many as for blocks of 4 KiB. A size of 0 counts as 1.
+  static std::size_t ShardsFor(std::size_t capacity,
+                               std::size_t block_size = kUsualCharge) noexcept {
+    constexpr std::size_t kLeastBlock = std::max<std::size_t>(kLeastShare / 4, 1);
+    const std::size_t blocks = capacity / std::max(block_size, kLeastBlock);
+    return std::clamp<std::size_t>(blocks / 4, 1, kMost);
+  }
+
+  // A cache with these options, or null if there is no memory for it. The seed is random unless a
+  // test passes its own.
+  static Self* New(const Options& options) noexcept { return New(options, Seed::random()); }
+  static Self* New(const Options& options, Seed seed) noexcept {
+    auto* cache = new (std::nothrow) Self(options, seed);
+    if (cache == nullptr || cache->Open(options)) return cache;
+    delete cache;
+    return nullptr;
+  }
+
+  // The same, with a capacity alone, or with a number of shards from 1 to kMostShards; another
+  // number counts as the nearest of these.
+  static Self* New(std::size_t capacity) noexcept { return New(With(capacity, 0)); }
+  static Self* New(std::size_t capacity, std::size_t shards) noexcept {
+    return New(With(capacity, std::max<std::size_t>(shards, 1)));
+  }
+
+ protected:
+  static Options With(std::size_t capacity, std::size_t shards) noexcept {
+    Options options;
+    options.capacity = capacity;
+    options.shards = shards;
+    return options;
+  }
+
+  // How many shards a cache with these options has.
+  static std::size_t ShardsOf(const Options& options) noexcept {
+    if (options.shards != 0) return std::min(options.shards, kMost);
+    return ShardsFor(options.capacity, TypicalCharge(options));
+  }
+};
+
 // How many entries the options let expect in each of so many shards, if each takes `metadata` of
 // the capacity besides its charge.
 inline std::size_t EntriesIn(const BlockCacheOptions& options, std::size_t metadata,
@@ -268,14 +320,13 @@ class Shards {
   static_assert(kMost <= UINT8_MAX + 1, "lru: a shard has a number of one byte");
 
  public:
-  // Another number counts as the nearest of these.
-  explicit Shards(std::size_t count) : count_(std::clamp<std::size_t>(count, 1, kMost)) {}
+  Shards(std::size_t count, Seed seed) : count_(count), seed_(seed) {}
 
   // False if there is no memory. Each shard gets another seed, and has room for its share of the
   // entries that the options let expect, each of which takes `metadata` of the capacity besides its
   // charge. Comes before all other members, and only once.
-  bool Open(const BlockCacheOptions& options, std::size_t metadata, Seed seed) {
-    seed_ = seed;
+  bool Open(const BlockCacheOptions& options, std::size_t metadata) {
+    Seed seed = seed_;
     const std::size_t share = Share(options.capacity);
     const std::size_t entries = EntriesIn(options, metadata, count_);
     for (Shard& shard : *this) {
@@ -318,8 +369,8 @@ class Shards {
   const Shard* end() const { return shards_ + count_; }
 
  private:
-  std::size_t count_;
-  Seed seed_{0};
+  const std::size_t count_;
+  const Seed seed_;
   Shard shards_[kMost];
 };
 

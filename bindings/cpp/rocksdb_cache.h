@@ -78,7 +78,6 @@
 #include <functional>
 #include <memory>
 #include <mutex>
-#include <new>
 #include <string>
 #include <string_view>
 #include <type_traits>
@@ -127,12 +126,27 @@ struct RocksDBDeleter {
 #endif
 };
 
+// Caches for RocksDB have `New` and `ShardsFor` of BlockCacheMaking, and up to 64 shards.
+template <class Self>
+using RocksDBMaking = BlockCacheMaking<Self, RocksDBCacheOptions, 64, 512 << 10>;
+
 // The members of a cache that RocksDB 8 and 9 changed, and those that only read an entry. A `Self`
 // has the members that these call. Handles are the addresses of entries.
 template <class Self, class Entry>
-class RocksDBInterface : public rocksdb::Cache {
+class RocksDBInterface : public rocksdb::Cache, public RocksDBMaking<Self> {
+ protected:
+  using Making = RocksDBMaking<Self>;
+
  public:
   using Helper = RocksDBHelper;
+
+  // With a number of shards, and a limit that may be strict.
+  using Making::New;
+  static Self* New(std::size_t capacity, std::size_t shards, bool strict_capacity_limit) noexcept {
+    RocksDBCacheOptions options = Making::With(capacity, std::max<std::size_t>(shards, 1));
+    options.strict_capacity_limit = strict_capacity_limit;
+    return New(options);
+  }
 
 #if ROCKSDB_MAJOR == 7
   using rocksdb::Cache::Insert;
@@ -149,9 +163,7 @@ class RocksDBInterface : public rocksdb::Cache {
     return HandleOf(self()->Find(key));
   }
 
-  DeleterFn GetDeleter(Handle* handle) const override {
-    return EntryOf(handle)->deleter().pointer;
-  }
+  DeleterFn GetDeleter(Handle* handle) const override { return EntryOf(handle)->deleter().pointer; }
 #else
   rocksdb::Status Insert(
       const rocksdb::Slice& key, ObjectPtr value, const CacheItemHelper* helper,
@@ -239,38 +251,6 @@ class BasicRocksDBCache
   using Handle = rocksdb::Cache::Handle;
   using Helper = detail::RocksDBHelper;
 
-  // A good number of shards for blocks of this size: the most, from 1 to 64, that leave each shard
-  // a capacity of 512 KiB, and of four blocks. Unless a number is passed, a cache has as many as
-  // for blocks of 4 KiB.
-  static std::size_t ShardsFor(std::size_t capacity, std::size_t block_size = 4096) noexcept {
-    constexpr std::size_t kLeastBlock = (512 << 10) / 4;
-    const std::size_t blocks = capacity / std::max(block_size, kLeastBlock);
-    return std::clamp<std::size_t>(blocks / 4, 1, kMostShards);
-  }
-
-  // A cache with these options, or null if there is no memory for it. The seed is random unless a
-  // test passes its own.
-  static BasicRocksDBCache* New(const RocksDBCacheOptions& options) noexcept {
-    return New(options, Seed::random());
-  }
-  static BasicRocksDBCache* New(const RocksDBCacheOptions& options, Seed seed) noexcept {
-    auto* cache = new (std::nothrow) BasicRocksDBCache(options);
-    if (cache == nullptr || cache->Open(options, seed)) return cache;
-    delete cache;
-    return nullptr;
-  }
-
-  // The same, with a capacity alone, or with a number of shards from 1 to 64; another number counts
-  // as the nearest of these.
-  static BasicRocksDBCache* New(std::size_t capacity) noexcept {
-    return New(RocksDBCacheOptions{{capacity}});
-  }
-  static BasicRocksDBCache* New(std::size_t capacity, std::size_t shards,
-                                bool strict_capacity_limit = false) noexcept {
-    return New(RocksDBCacheOptions{{capacity, std::max<std::size_t>(shards, 1)},
-                                   strict_capacity_limit});
-  }
-
   BasicRocksDBCache(const BasicRocksDBCache&) = delete;
   BasicRocksDBCache& operator=(const BasicRocksDBCache&) = delete;
 
@@ -349,9 +329,8 @@ class BasicRocksDBCache
   }
 
  private:
-  static constexpr std::size_t kMostShards = 64;
-
   friend Interface;
+  friend typename Interface::Making;
   using Entry = detail::RocksDBEntry;
   using Interface::EntryOf;
   using Interface::HandleOf;
@@ -499,10 +478,8 @@ class BasicRocksDBCache
     const std::lock_guard<detail::Mutex> lock_;
   };
 
-  explicit BasicRocksDBCache(const RocksDBCacheOptions& options)
-      : shards_(options.shards != 0
-                    ? options.shards
-                    : ShardsFor(options.capacity, detail::TypicalCharge(options))),
+  BasicRocksDBCache(const RocksDBCacheOptions& options, Seed seed)
+      : shards_(Interface::ShardsOf(options), seed),
         charges_metadata_(options.charges_metadata),
         capacity_(options.capacity),
         is_strict_(options.strict_capacity_limit) {}
@@ -530,8 +507,8 @@ class BasicRocksDBCache
     }
   }
 
-  bool Open(const RocksDBCacheOptions& options, Seed seed) {
-    return shards_.Open(options, Metadata(sizeof(Words)), seed);
+  bool Open(const RocksDBCacheOptions& options) {
+    return shards_.Open(options, Metadata(sizeof(Words)));
   }
 
   // What an entry with a key of this length counts besides its charge.
@@ -635,7 +612,7 @@ class BasicRocksDBCache
     return told.code == LRU_HIT ? detail::node_of<Entry>(told.value) : nullptr;
   }
 
-  detail::Shards<Shard, kMostShards> shards_;
+  detail::Shards<Shard, Interface::kMostShards> shards_;
   const bool charges_metadata_;
   std::atomic<std::size_t> capacity_;
   std::atomic<bool> is_strict_;

@@ -51,12 +51,10 @@
 #ifndef LRU_ROCKSDB_CLOCK_CACHE_H
 #define LRU_ROCKSDB_CLOCK_CACHE_H
 
-#include <algorithm>
 #include <atomic>
 #include <cstddef>
 #include <cstdint>
 #include <memory>
-#include <new>
 #include <string>
 
 #include "lru_block_cache.hpp"
@@ -79,36 +77,6 @@ class RocksDBClockCache
   using Interface = detail::RocksDBInterface<RocksDBClockCache, detail::RocksDBClockEntry>;
 
  public:
-  // A good number of shards for blocks of this size: the most, from 1 to 64, that leave each shard
-  // a capacity of 512 KiB, and of four blocks. Unless a number is passed, a cache has as many as
-  // for blocks of 4 KiB.
-  static std::size_t ShardsFor(std::size_t capacity, std::size_t block_size = 4096) noexcept {
-    return RocksDBBlockCache::ShardsFor(capacity, block_size);
-  }
-
-  // A cache with these options, or null if there is no memory for it. The seed is random unless a
-  // test passes its own.
-  static RocksDBClockCache* New(const RocksDBCacheOptions& options) noexcept {
-    return New(options, Seed::random());
-  }
-  static RocksDBClockCache* New(const RocksDBCacheOptions& options, Seed seed) noexcept {
-    auto* cache = new (std::nothrow) RocksDBClockCache(options, seed);
-    if (cache == nullptr || cache->blocks_.Open(options, cache->metadata_)) return cache;
-    delete cache;
-    return nullptr;
-  }
-
-  // The same, with a capacity alone, or with a number of shards from 1 to 64; another number counts
-  // as the nearest of these.
-  static RocksDBClockCache* New(std::size_t capacity) noexcept {
-    return New(RocksDBCacheOptions{{capacity}});
-  }
-  static RocksDBClockCache* New(std::size_t capacity, std::size_t shards,
-                                bool strict_capacity_limit = false) noexcept {
-    return New(RocksDBCacheOptions{{capacity, std::max<std::size_t>(shards, 1)},
-                                   strict_capacity_limit});
-  }
-
   RocksDBClockCache(const RocksDBClockCache&) = delete;
   RocksDBClockCache& operator=(const RocksDBClockCache&) = delete;
 
@@ -158,19 +126,17 @@ class RocksDBClockCache
 
  private:
   friend Interface;
+  friend Making;
   using Entry = detail::RocksDBClockEntry;
   using Blocks = detail::ClockBlocks<Entry>;
 
-  static constexpr std::size_t kMostShards = 64;
-
   RocksDBClockCache(const RocksDBCacheOptions& options, Seed seed)
-      : blocks_(options.shards != 0
-                    ? std::min(options.shards, kMostShards)
-                    : ShardsFor(options.capacity, detail::TypicalCharge(options)),
-                seed),
+      : blocks_(ShardsOf(options), seed),
         metadata_(options.charges_metadata ? detail::ClockMetadata<Entry>() : 0),
         capacity_(options.capacity),
         is_strict_(options.strict_capacity_limit) {}
+
+  bool Open(const RocksDBCacheOptions& options) { return blocks_.Open(options, metadata_); }
 
   // What an entry counts.
   std::uint64_t WeightOf(const Entry& entry) const {
