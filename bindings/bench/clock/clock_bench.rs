@@ -88,10 +88,10 @@ fn compare(systems: &[System], entries: u64, threads: u64, rounds: u64) {
     };
     let mut before = time_of(0);
     for _ in 0..rounds {
-        for n in 1..systems.len() {
+        for (n, ratios) in ratios.iter_mut().enumerate().skip(1) {
             let own = time_of(n);
             let after = time_of(0);
-            ratios[n].push(2.0 * own / (before + after));
+            ratios.push(2.0 * own / (before + after));
             before = after;
         }
     }
