@@ -351,6 +351,7 @@ class Object {
   Object& operator=(const Object&) = delete;
 
   bool fits(std::uint64_t n) const { return key_ == n && ledger_->is_alive(number_); }
+  std::uint64_t key() const { return key_; }
   Origin origin() const { return origin_; }
   std::uint64_t number() const { return number_; }
 
@@ -465,14 +466,24 @@ class Worker {
         settle();
         break;
       case 12:
-        refused(key.key());
+        if (random_.below(8) > 0) {
+          refused(key.key());
+        } else if (random_.below(4) > 0) {
+          visit();
+        } else {
+          erase_own();
+        }
         break;
       case 13:
         post_->exchange(random_.below(100), held);
         break;
       case 14:
-        swap(held.handle, held_[0].handle);
-        std::swap(held.key, held_[0].key);
+        if (random_.below(2) == 0) {
+          held_[0] = {held.handle.clone(), held.key};
+        } else {
+          swap(held.handle, held_[0].handle);
+          std::swap(held.key, held_[0].key);
+        }
         break;
       case 15:
       case 16:
@@ -608,6 +619,27 @@ class Worker {
     } else {
       cache_->set_capacity(kCapacity / 2 + random_.below(kCapacity));
     }
+  }
+
+  // Visits all values that keys find.
+  void visit() {
+    cache_->for_each([&](const auto& shown, const Object& object, std::uint64_t charge, auto) {
+      const std::uint64_t n = object.key();
+      MUST(KeyOf(n).key() == shown && object.fits(n) && charge == charge_of(n));
+      if (is_own(n)) MUST(known_[n].current == object.number());
+    });
+  }
+
+  // Erases the values of all keys of this thread.
+  void erase_own() {
+    const std::uint64_t erased = cache_->erase_if(
+        [&](const auto&, const Object& object, auto...) { return is_own(object.key()); });
+    for (std::uint64_t n = kSharedKeys; n < kKeys; n++) {
+      if (!is_own(n)) continue;
+      known_[n].floor = ledger_->made();
+      known_[n].current.reset();
+    }
+    MUST(erased <= kOwnKeys);
   }
 
   void refused(Key key) {
