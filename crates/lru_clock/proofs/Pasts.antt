@@ -15,12 +15,12 @@ use Rattle.logbook.specs.Pages.{Book, Named, Cell, cell, keeps, gives, adds, nib
 use Rattle.lru_clock.specs.declared.history.Event.{Event}
 use Rattle.lru_clock.specs.declared.history.Entry.{Entry}
 use Rattle.lru_clock.specs.History.{turns, of_place, entry_after, entry_at, entry, event}
-use Rattle.lru_clock.specs.History.{HasCome}
+use Rattle.lru_clock.specs.History.{ComesTo, HasCome}
 use Rattle.lru_clock.specs.Arrivals.{Arrives}
 use Rattle.lru_clock.specs.declared.history.Arrival.{Arrival}
 use Rattle.lru_clock.specs.Books.{EachOf, numbers}
 use Rattle.lru_clock.specs.Shards.{IsShardOf}
-use Rattle.lru_clock.specs.Hits.{Sees}
+use Rattle.lru_clock.specs.Hits.{HasArrived, Sees}
 use Rattle.lru_clock.specs.Pins.{PastOf}
 use Rattle.lru_clock.specs.HistoryRule.{IsKept, Looks, Adds, Widens, Begins}
 
@@ -348,6 +348,19 @@ of_tag f xs k None tag b each at names = tt
 of_tag f xs k (Some x) tag b each at names = same_book (f x.now) b (each k x.now (read_at xs k x.now at.3.0 at.1) ∙ names)
 
 module _ {K V : Type 0} where
+  -- an entry with whose arrival a prefix ends came within it
+  pub comes_last : (w : Named) (a : Arrival K V) (e : Entry K V) (log : List (Event K V)) → log ≡ a.log.log → Arrives w a e → ComesTo w.key e log
+  comes_last w a e log same at = (at.before, at.skipped, ([], append-nil (at.before ++ event w.key at.skipped (Some e) ∷ []) ∙ (sym at.last ∙ sym same)))
+
+  -- an entry of an equal key that came to a place
+  pub arrived_with : (E : K → K → Bool) (p : ℕ) (k l : K) (v u : V) (log : List (Event K V)) → ComesTo p (entry l u) log → v ≡ u → E l k ≡ true → HasArrived E log k v
+  arrived_with E p k l v u log came same equal = record {
+    place = p;
+    key = l;
+    comes = subst (λ (x : V). ComesTo p (entry l x) log) (sym same) came;
+    equal = equal;
+  }
+
   -- what a past says of an arrival, said of the entry
   pub sees_if : (E : K → K → Bool) (w : Named) (a : Arrival K V) (past : Option (PastOf K V)) (k l : K) (v u : V) (book : Book) (log : List (Event K V)) → Arrives w a (entry l u) → v ≡ u → E l k ≡ true
       → IfSome past (λ (p : PastOf K V). book ≡ p.book) → IfSome past (λ (p : PastOf K V). IsPrefix p.seen log)

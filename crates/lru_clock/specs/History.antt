@@ -42,3 +42,7 @@ module _ {K V : Type 0} where
     pub skipped : ℕ
     pub came : IsPrefix (before ++ event p skipped (Some e) ∷ []) log
     pub there : entry_at p log ≡ Some e
+
+  -- the entry came to the slot at a place within `log`
+  abbrev pub ComesTo : ℕ → Entry K V → List (Event K V) → Type 0
+  ComesTo p e log = (before : List (Event K V)) × (skipped : ℕ) × IsPrefix (before ++ event p skipped (Some e) ∷ []) log

@@ -3,10 +3,17 @@ use Rattle.std.specs.Prelude.{◌≡◌, ℕ, Bool, true, List}
 use mathlib.Core.List.{IsPrefix}
 use Rattle.logbook.specs.Pages.{Book}
 use Rattle.lru_clock.specs.declared.history.Event.{Event}
-use Rattle.lru_clock.specs.History.{entry, HasCome}
+use Rattle.lru_clock.specs.History.{entry, ComesTo, HasCome}
 use Rattle.lru_clock.specs.Pins.{PastOf}
 
 module _ {K V : Type 0} (E : K → K → Bool) where
+  -- an entry with an equal key and this value came to some slot within `log`
+  pub record HasArrived (log : List (Event K V)) (k : K) (v : V) : Type 0 where
+    pub place : ℕ
+    pub key : K
+    pub comes : ComesTo place (entry key v) log
+    pub equal : E key k ≡ true
+
   -- an entry with an equal key and this value came to some slot after the prefix `since`, and is
   -- there at the end of `log`
   abbrev pub IsFresh : List (Event K V) → List (Event K V) → K → V → Type 0

@@ -9,6 +9,8 @@ pub mod Pins
 pub mod Turns
 pub mod Makings
 pub mod Begun
+pub mod Makers
+pub mod Beginnings
 pub mod Seats
 pub mod SeatStates
 pub mod SeatChanges

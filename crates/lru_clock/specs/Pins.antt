@@ -1,5 +1,5 @@
--- What clauses see of a past, of a pin and of an invalidation.
-use Rattle.std.specs.Prelude.{ℕ, List}
+-- What clauses see of a past, of a pin, of a handle and of an invalidation.
+use Rattle.std.specs.Prelude.{ℕ, List, Option}
 use Rattle.logbook.specs.Pages.{Book}
 use Rattle.lru_clock.specs.declared.history.Event.{Event}
 
@@ -13,6 +13,15 @@ pub record PastOf (K V : Type 0) : Type 0 where
 -- the key that was asked for, the value, and what was seen of a history
 pub record PinOf (K V : Type 0) : Type 0 where
   pub key : K
+  pub value : V
+  pub book : Book
+  pub log : List (Event K V)
+
+-- what a handle shows: the key that was asked for, the charge if one was given, the value, and what
+-- was seen of the history of the key's shard
+pub record HandleOf (K V : Type 0) : Type 0 where
+  pub key : K
+  pub charge : Option ℕ
   pub value : V
   pub book : Book
   pub log : List (Event K V)

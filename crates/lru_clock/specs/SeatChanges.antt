@@ -1,5 +1,5 @@
 -- What a change of the index does to the seats.
-use Rattle.std.specs.Prelude.{◌≡◌, ℕ, ◌+◌, ◌-◌, ◌<◌, ◌^◌, ◌++◌, replicate, true, false, List, None, Some, slice_get, sum_by, MatchOption}
+use Rattle.std.specs.Prelude.{◌≡◌, ℕ, ◌+◌, ◌-◌, ◌<◌, ◌^◌, ◌++◌, replicate, true, false, List, Option, None, Some, slice_get, sum_by, MatchOption}
 use Rattle.std.proofs.Math.ListN.{set}
 use Rattle.lru_clock.specs.Evictions.{charge_at}
 use Rattle.lru_clock.specs.Seats.{Seat, seat, listed_as}
@@ -28,6 +28,15 @@ module _ {K : Type 0} where
   -- vacant places were added, and nothing else changed
   abbrev pub AddsVacant : List (Seat K) → List (Seat K) → Type 0
   AddsVacant old new = (n : ℕ) × (new ≡ old ++ replicate n (seat 0 0 None))
+
+  -- a vacant place was taken for an entry, perhaps one that was added for it
+  abbrev pub Reserves : List (Seat K) → ℕ → List (Seat K) → Type 0
+  Reserves old p new = (wide : List (Seat K)) × AddsVacant old wide × IsVacant wide p × ((s : Seat K) × (new ≡ set wide p s))
+
+  -- vacant places may have been added, and then the entry at some place left, if one did
+  abbrev pub VacatesAny : {X : Type 0} → List (Seat K) → List (Seat K) → Option X → Type 0
+  VacatesAny old new None = AddsVacant old new
+  VacatesAny old new (Some leaver) = (wide : List (Seat K)) × AddsVacant old wide × ((p : ℕ) × (new ≡ set wide p (seat 0 0 None)))
 
   -- no charge changed
   pub record KeepsCharges (old new : List (Seat K)) : Type 0 where

@@ -10,12 +10,16 @@ ghost use Rattle.concurrent_lru.specs.ThreadedCalls.{IfInit, IsNotInit};
 ghost use Rattle.lru_clock.specs.Shards.{IsBookOf, IsEvidenceOf, IsShardOf, IsTagOf};
 ghost use Rattle.concurrent_lru.specs.Sharded.{key_number};
 
+mod maker;
+mod makings;
 mod pasts;
+mod sums;
 
+pub use crate::clock::maker::{Begun, Maker};
 pub use crate::clock_core::Invalidated;
 pub use crate::handle::CacheHandle;
 pub use crate::history::Past;
-use crate::shard::{Shard, Turn};
+use crate::shard::Shard;
 pub use crate::shard_state::Counts;
 use crate::store::MOST_PINS;
 pub use concurrent_lru::fit::{Anything, Fit};
@@ -217,6 +221,8 @@ impl<K: Hash + Eq + Clone + Drop, V: Drop, R: Wait, S: BuildHasher, F: Fit<K, V>
         ensures key { IfOk result (λ found. IfSome found (λ h. h.key ≡ key)) }
         ensures charge { IfOk result (λ found. IfSome found (λ h. h.charge ≡ None)) }
         ensures fits { IfOk result (λ found. IfSome found (λ h. F.fits key h.value)) }
+        ensures book { IfOk result (λ found. IfSome found (λ h.
+            IsBookOf S.BuildHasher S.Hasher.Hasher K.hash_input self.now key h.book)) }
         ensures never_stale { IfErr result (λ e. e ≢ Refusal.Stale) }
     {
         self.find(&key)
@@ -230,6 +236,8 @@ impl<K: Hash + Eq + Clone + Drop, V: Drop, R: Wait, S: BuildHasher, F: Fit<K, V>
         ensures key { IfOk result (λ found. IfSome found (λ h. h.key ≡ key.now)) }
         ensures charge { IfOk result (λ found. IfSome found (λ h. h.charge ≡ None)) }
         ensures fits { IfOk result (λ found. IfSome found (λ h. F.fits key.now h.value)) }
+        ensures book { IfOk result (λ found. IfSome found (λ h.
+            IsBookOf S.BuildHasher S.Hasher.Hasher K.hash_input self.now key.now h.book)) }
         ensures never_stale { IfErr result (λ e. e ≢ Refusal.Stale) }
     {
         let (shard, tag) = self.route(key);
@@ -262,143 +270,16 @@ impl<K: Hash + Eq + Clone + Drop, V: Drop, R: Wait, S: BuildHasher, F: Fit<K, V>
         }
     }
 
-    /// Returns a handle of the key's value, which `init` makes if the key has none. Waits while
-    /// another caller makes it; if that making fails or is invalidated, this call makes the value.
-    /// `get_or_try_init_by` takes the key by reference.
-    ///
-    /// `init` runs without a lock. Then entries are evicted to make room for the charge, and the
-    /// value is stored. If the key was invalidated meanwhile, only this caller gets the value.
-    ///
-    /// Returns `Init` with the error that `init` returned, `Overflow` if the entry has the maximum
-    /// number of pins or the charge would take the shard's total past `u64::MAX`, and `Memory` if a
-    /// copy of the key or a slot is refused. A value that was already made is dropped.
-    #[inline(always)]
-    pub fn get_or_try_init<E, I>(
-        &self,
-        key: K,
-        charge: u64,
-        init: I,
-    ) -> Result<CacheHandle<'_, K, V, R, F>, GetError<E>>
-    where
-        I: FnOnce(&K) -> Result<V, E> + Drop,
-        requires charged { 0 < charge }
-        requires callable { FnOnceTakesAt I.FnOnce init key }
-        requires fits { (v : V) → FnOnceReturnsAt I.FnOnce init key (Ok v) → F.fits key v }
-        ensures key { IfOk result (λ h. h.key ≡ key) }
-        ensures charge { IfOk result (λ h. h.charge ≡ Some charge) }
-        ensures fits { IfOk result (λ h. F.fits key h.value) }
-        ensures error { IfErr result (λ e. IfInit e
-            (λ x. FnOnceReturnsAt I.FnOnce init key (Err x))) }
-    {
-        self.get_or_try_init_by(&key, charge, init)
-    }
-
-    /// `get_or_try_init` with the key by reference. The key is copied only if its value is made.
-    ///
-    /// Returns `Init`, `Memory` and `Overflow` as `get_or_try_init` does.
-    #[inline(always)]
-    pub fn get_or_try_init_by<E, I>(
-        &self,
-        key: &K,
-        charge: u64,
-        init: I,
-    ) -> Result<CacheHandle<'_, K, V, R, F>, GetError<E>>
-    where
-        I: FnOnce(&K) -> Result<V, E> + Drop,
-        requires charged { 0 < charge }
-        requires callable { FnOnceTakesAt I.FnOnce init key.now }
-        requires fits { (v : V) → FnOnceReturnsAt I.FnOnce init key.now (Ok v) → F.fits key.now v }
-        ensures key { IfOk result (λ h. h.key ≡ key.now) }
-        ensures charge { IfOk result (λ h. h.charge ≡ Some charge) }
-        ensures fits { IfOk result (λ h. F.fits key.now h.value) }
-        ensures error { IfErr result (λ e. IfInit e
-            (λ x. FnOnceReturnsAt I.FnOnce init key.now (Err x))) }
-    {
-        let (shard, tag) = self.route(key);
-        let turn = match shard.enter(&self.rt, tag, key, charge) {
-            Ok(turn) => turn,
-            Err(refusal) => return Err(error_of(refusal)),
-        };
-        let found = match turn {
-            Turn::Hit(place, pin) => Ok((place, pin)),
-            Turn::Make(ticket) => match init(key) {
-                Ok(value) => shard.finish(&self.rt, tag, key, charge, value, ticket),
-                Err(error) => {
-                    shard.fail(&self.rt, ticket);
-                    return Err(GetError::Init(error));
-                }
-            },
-        };
-        match found {
-            Ok((place, pin)) => Ok(CacheHandle::new(&self.rt, shard, place, pin, Some(charge))),
-            Err(refusal) => Err(error_of(refusal)),
-        }
-    }
-
-    /// `get_or_try_init` with an `init` that cannot fail. `get_or_init_by` takes the key by
-    /// reference.
-    ///
-    /// Returns `Memory` and `Overflow` as `get_or_try_init` does.
-    #[inline(always)]
-    pub fn get_or_init<I>(
-        &self,
-        key: K,
-        charge: u64,
-        init: I,
-    ) -> Result<CacheHandle<'_, K, V, R, F>, Refusal>
-    where
-        I: FnOnce(&K) -> V + Drop,
-        requires charged { 0 < charge }
-        requires callable { FnOnceTakesAt I.FnOnce init key }
-        requires fits { (v : V) → FnOnceReturnsAt I.FnOnce init key v → F.fits key v }
-        ensures key { IfOk result (λ h. h.key ≡ key) }
-        ensures charge { IfOk result (λ h. h.charge ≡ Some charge) }
-        ensures fits { IfOk result (λ h. F.fits key h.value) }
-        ensures never_stale { IfErr result (λ e. e ≢ Refusal.Stale) }
-    {
-        self.get_or_init_by(&key, charge, init)
-    }
-
-    /// `get_or_try_init_by` with an `init` that cannot fail.
-    ///
-    /// Returns `Memory` and `Overflow` as `get_or_try_init` does.
-    #[inline(always)]
-    pub fn get_or_init_by<I>(
-        &self,
-        key: &K,
-        charge: u64,
-        init: I,
-    ) -> Result<CacheHandle<'_, K, V, R, F>, Refusal>
-    where
-        I: FnOnce(&K) -> V + Drop,
-        requires charged { 0 < charge }
-        requires callable { FnOnceTakesAt I.FnOnce init key.now }
-        requires fits { (v : V) → FnOnceReturnsAt I.FnOnce init key.now v → F.fits key.now v }
-        ensures key { IfOk result (λ h. h.key ≡ key.now) }
-        ensures charge { IfOk result (λ h. h.charge ≡ Some charge) }
-        ensures fits { IfOk result (λ h. F.fits key.now h.value) }
-        ensures never_stale { IfErr result (λ e. e ≢ Refusal.Stale) }
-    {
-        let (shard, tag) = self.route(key);
-        let (place, pin) = match shard.enter(&self.rt, tag, key, charge)? {
-            Turn::Hit(place, pin) => (place, pin),
-            Turn::Make(ticket) => {
-                let value = init(key);
-                shard.finish(&self.rt, tag, key, charge, value, ticket)?
-            }
-        };
-        Ok(CacheHandle::new(&self.rt, shard, place, pin, Some(charge)))
-    }
-
     /// Inserts a value for a key, replacing the key's entry, and returns a handle of the value. The
     /// key is invalidated, even if its old value is pinned or being made, and the new entry is
-    /// stored in the same step, unless more than the old entry must be evicted to make room: then
-    /// other callers may find the key without an entry in between.
+    /// stored in the same step. Before that, entries are evicted to make room, for which the charge
+    /// of the key's entry counts if nobody has pinned it; that entry may be among them.
     ///
     /// Returns `Overflow` if the charge would take the shard's total, with the old entry still
-    /// counted, past `u64::MAX`, and `Memory` if a copy of the key or a slot is refused. Then the
-    /// value is dropped, and the key's entry stays, unless more than that entry had to be evicted
-    /// and other callers took the room meanwhile.
+    /// counted, past `u64::MAX`, `Full` if the limit is strict (`set_strict_limit`) and leaves no
+    /// room for the new entry, and `Memory` if a copy of the key or a slot is refused. Then the
+    /// value is dropped, and the key's entry stays as it was, unless it was evicted to make room,
+    /// which other callers then took.
     pub fn insert(
         &self,
         key: &K,
@@ -410,6 +291,8 @@ impl<K: Hash + Eq + Clone + Drop, V: Drop, R: Wait, S: BuildHasher, F: Fit<K, V>
         ensures key { IfOk result (λ h. h.key ≡ key.now) }
         ensures charge { IfOk result (λ h. h.charge ≡ Some charge) }
         ensures fits { IfOk result (λ h. F.fits key.now h.value) }
+        ensures book { IfOk result (λ h.
+            IsBookOf S.BuildHasher S.Hasher.Hasher K.hash_input self.now key.now h.book) }
         ensures value { IfOk result (λ h. h.value ≡ value) }
         ensures never_stale { IfErr result (λ e. e ≢ Refusal.Stale) }
     {
@@ -461,50 +344,36 @@ impl<K: Hash + Eq + Clone + Drop, V: Drop, R: Wait, S: BuildHasher, F: Fit<K, V>
         }
     }
 
-    /// Returns the sum of the shards' capacities, read one after another. Each share is rounded up,
-    /// so the sum may be above the capacity that was set. Takes no memory.
-    pub fn capacity(&self) -> u128 {
-        let mut capacity = 0;
+    /// Sets whether the capacity of each shard is a strict limit, which it is not in a new cache,
+    /// one shard after another, so the call is not atomic. The limit of a new entry is that of its
+    /// key's shard. Takes no memory.
+    ///
+    /// Pinned entries stay and count, so a new entry may take the total above the capacity. While
+    /// the limit is strict, `get_or_init` and the calls named after it, and `insert`, return `Full`
+    /// instead, if the charge of a new entry exceeds the capacity together with the charges of the
+    /// pinned entries. Then nothing is stored, and nothing is evicted unless other callers pin
+    /// entries during the call. A making is refused before its value is made, and, as its charge
+    /// counts only once it is stored, perhaps also after that. A call that finds an entry adds no
+    /// charge, and is never refused in this way. A total that is above the capacity when the limit
+    /// becomes strict only falls until it is no longer.
+    ///
+    /// A strict limit costs time where many entries are pinned: a call that adds an entry to a full
+    /// shard visits slots until enough of the entries there are idle.
+    pub fn set_strict_limit(&self, strict: bool) {
         for shard in &self.shards {
-            capacity += u128::from(shard.numbers(&self.rt).capacity);
+            shard.set_strict_limit(&self.rt, strict);
         }
-        capacity
     }
 
-    /// Returns the sum of the charges of all entries. The shards are read one after another, so it
-    /// is not a snapshot. Takes no memory.
-    pub fn total_charge(&self) -> u128 {
-        let mut total = 0;
+    /// Returns whether the capacity of every shard is a strict limit, read one after another, so it
+    /// is no snapshot. Takes no memory.
+    pub fn is_limit_strict(&self) -> bool {
         for shard in &self.shards {
-            total += u128::from(shard.numbers(&self.rt).total);
+            if !shard.is_limit_strict(&self.rt) {
+                return false;
+            }
         }
-        total
-    }
-
-    /// Returns the sum of the charges of the pinned entries. The shards are read one after another,
-    /// and hits pin entries meanwhile, so it is not a snapshot. Visits every slot. Takes no memory.
-    pub fn pinned_charge(&self) -> u128 {
-        let mut pinned = 0;
-        for shard in &self.shards {
-            pinned += u128::from(shard.pinned_charge(&self.rt));
-        }
-        pinned
-    }
-
-    /// Returns the number of entries, including those still pinned after an `invalidate`, but not
-    /// values that are being made. The shards are read one after another, so it is not a snapshot.
-    /// Takes no memory.
-    pub fn len(&self) -> usize {
-        let mut len = 0usize;
-        for shard in &self.shards {
-            len = len.saturating_add(shard.numbers(&self.rt).entries);
-        }
-        len
-    }
-
-    /// Returns whether `len` is 0. Takes no memory.
-    pub fn is_empty(&self) -> bool {
-        self.len() == 0
+        true
     }
 
     /// Returns whether the key has an entry. Takes the lock of the shard, does not count as a use
@@ -512,46 +381,6 @@ impl<K: Hash + Eq + Clone + Drop, V: Drop, R: Wait, S: BuildHasher, F: Fit<K, V>
     pub fn contains(&self, key: &K) -> bool {
         let (shard, tag) = self.route(key);
         shard.contains(&self.rt, tag, key)
-    }
-
-    /// Calls `f` with the key, the value, the charge and the number of pins of each entry that its
-    /// key finds, in an unspecified order. An idle entry has no pins. Values that are being made and
-    /// entries that were invalidated are left out. Does not count as a use of an entry. Takes no
-    /// memory.
-    ///
-    /// The shards are visited one after another, each under its lock, so the entries need not all
-    /// have been there at any one moment. While `f` looks at an entry, the entry has one pin more,
-    /// which does not count in the number of pins. `f` should be short, and must neither use this
-    /// cache nor drop a handle of it, since that could deadlock.
-    pub fn for_each<G>(&self, mut f: G)
-    where
-        G: FnMut(&K, &V, u64, u32) + Drop,
-        requires callable { (state : G) (k : _) (v : _) (charge pins : _)
-            → F.fits k.now v.now → G.pre state k v charge pins }
-    {
-        for shard in &self.shards {
-            shard.for_each(&self.rt, &mut f);
-        }
-    }
-
-    /// Returns the sum of the shards' counts, read one after another, so it is not a snapshot.
-    /// Takes no memory.
-    pub fn counts(&self) -> Counts {
-        let mut counts = Counts::default();
-        for shard in &self.shards {
-            counts = counts.wrapping_add(shard.numbers(&self.rt).counts);
-        }
-        counts
-    }
-
-    /// Resets the counts, one shard after another, and returns the sum of what they were. Whatever
-    /// a call adds to the counts is returned by exactly one reset. Takes no memory.
-    pub fn reset_counts(&self) -> Counts {
-        let mut counts = Counts::default();
-        for shard in &self.shards {
-            counts = counts.wrapping_add(shard.reset_counts(&self.rt));
-        }
-        counts
     }
 }
 
@@ -577,19 +406,6 @@ fn choose_shard<'a, K: Hash + Eq + Clone, V, S: BuildHasher, F: Fit<K, V>>(
         len => hash % len as u64,
     };
     (&shards[at as usize], (hash >> 32) as u32)
-}
-
-// Converts a refusal by a call that takes no stamp, and so never returns `Stale`.
-fn error_of<E>(refusal: Refusal) -> GetError<E>
-    requires { refusal ≢ Refusal.Stale }
-    ensures not_init { IsNotInit result }
-{
-    match refusal {
-        Refusal::Memory => GetError::Memory,
-        Refusal::Overflow => GetError::Overflow,
-        Refusal::Full => GetError::Full,
-        Refusal::Stale => unreachable!(),
-    }
 }
 
 // Prints numbers of the cache, which are not a snapshot.

@@ -12,7 +12,9 @@ mod changes;
 mod evictions;
 mod holds;
 mod invalidations;
+mod limits;
 mod makings;
+mod replacements;
 
 pub use crate::clock_core::invalidations::Invalidated;
 pub use crate::clock_core::makings::Begun;
@@ -74,6 +76,8 @@ impl<K: Eq + Clone + Drop, V: Drop, F: Fit<K, V>> Core<K, V, F> {
             (λ past. past.book ≡ self.now.store.chronicle.first.book) }
         ensures pin { IfOk result (λ found. IfSome found
             (λ f. (f.1.key ≡ key.now) × F.fits key.now f.1.value)) }
+        ensures book { IfOk result (λ found. IfSome found
+            (λ f. f.1.book ≡ self.now.store.chronicle.first.book)) }
         ensures since { IfSome past.now (λ past. IfOk result (λ found. IfSome found
             (λ f. Sees K.eq past key.now f.1.value f.1.book f.1.log))) }
         ensures refused { IfErr result (λ e. e ≡ Refusal.Overflow) }

@@ -2,7 +2,9 @@
 //!
 //! Reading a handle acquires no lock. Dropping one seldom does: see its `Drop`.
 ghost use Rattle.std.specs.Prelude.{◌≡◌, ◌≢◌, IfOk, IfErr};
+ghost use Rattle.lru_clock.specs.Hits.{HasArrived};
 
+use crate::history::Log;
 use crate::shard::Shard;
 use crate::store::{Pin, Released};
 use concurrent_lru::fit::{Anything, Fit};
@@ -21,7 +23,8 @@ use std::sync::Wait;
 /// right to wait may be.
 ///
 /// Clauses see the key and the charge that the caller asked for (`get` asks for no charge), and the
-/// value, which fits that key by the mark `F`.
+/// value, which fits that key by the mark `F`. They also see a prefix of the history of the key's
+/// shard, within which the entry was stored (`log`), and whose history it is (`book`).
 pub struct CacheHandle<'a, K: Hash + Eq + Clone, V, R: Wait, F: Fit<K, V> = Anything> {
     rt: &'a R,
     shard: &'a Shard<K, V, F>,
@@ -31,11 +34,17 @@ pub struct CacheHandle<'a, K: Hash + Eq + Clone, V, R: Wait, F: Fit<K, V> = Anyt
 }
 
 impl<'a, K: Hash + Eq + Clone, V, R: Wait, F: Fit<K, V>> Model for CacheHandle<'a, K, V, R, F> {
-    ghost use Rattle.concurrent_lru.specs.Pins.{HandleOf};
+    ghost use Rattle.lru_clock.specs.Pins.{HandleOf};
 
     ghost Value = { HandleOf K V };
 
-    ghost view = { λ h. record { key = h.pin.key; charge = h.charge.value; value = h.pin.value } };
+    ghost view = { λ h. record {
+      key = h.pin.key;
+      charge = h.charge.value;
+      value = h.pin.value;
+      book = h.pin.book;
+      log = h.pin.log;
+    } };
 }
 
 impl<'a, K: Hash + Eq + Clone, V, R: Wait, F: Fit<K, V>> CacheHandle<'a, K, V, R, F> {
@@ -51,6 +60,7 @@ impl<'a, K: Hash + Eq + Clone, V, R: Wait, F: Fit<K, V>> CacheHandle<'a, K, V, R
         ensures key { result.key ≡ pin.entry.key }
         ensures charge { result.charge ≡ charge }
         ensures value { result.value ≡ pin.entry.value }
+        ensures seen { (result.book ≡ pin.entry.book) × (result.log ≡ pin.entry.log) }
     {
         CacheHandle {
             rt,
@@ -59,6 +69,15 @@ impl<'a, K: Hash + Eq + Clone, V, R: Wait, F: Fit<K, V>> CacheHandle<'a, K, V, R
             pin,
             charge: Shown::of(&charge),
         }
+    }
+
+    /// Returns the prefix of the history that the handle's call saw. The entry was stored within
+    /// it.
+    pub(crate) fn seen(&self) -> Log<K, V>
+        ensures seen { (result.book ≡ self.now.book) × (result.log ≡ self.now.log) }
+        ensures arrived { HasArrived K.eq self.now.log self.now.key self.now.value }
+    {
+        self.pin.seen()
     }
 
     /// Returns the value. Acquires no lock.
@@ -82,6 +101,7 @@ impl<'a, K: Hash + Eq + Clone + Drop, V: Drop, R: Wait, F: Fit<K, V>> CacheHandl
         ensures charge { IfOk result (λ h. h.charge ≡ self.now.charge) }
         ensures value { IfOk result (λ h. h.value ≡ self.now.value) }
         ensures fits { IfOk result (λ h. F.fits h.key h.value) }
+        ensures book { IfOk result (λ h. h.book ≡ self.now.book) }
         ensures never_stale { IfErr result (λ e. e ≢ Refusal.Stale) }
     {
         let pin = self.pin.again(self.shard.core.most_pins)?;

@@ -14,7 +14,7 @@ ghost use Rattle.std.specs.Prelude.{IfSome, IsTrue};
 ghost use mathlib.Core.List.{IsPrefix};
 ghost use Rattle.logbook.specs.Pages.{Named};
 ghost use Rattle.crossbeam_utils.specs.Padded.{padded_value};
-ghost use Rattle.lru_clock.specs.History.{turns, entry, named, HasCome};
+ghost use Rattle.lru_clock.specs.History.{turns, entry, named, ComesTo, HasCome};
 ghost use Rattle.lru_clock.specs.Arrivals.{Arrives};
 ghost use Rattle.lru_clock.specs.declared.history.Entry.{Entry as Entry_};
 ghost use Rattle.lru_clock.specs.declared.history.Event.{Event as Event_};
@@ -170,8 +170,8 @@ impl<K, V> Plain<Coming<K, V>, Event<K, V>, u64> for EntryComes {
 /// it has invalidated.
 ///
 /// After an `invalidate_since` with a past, `find_since` with that past returns only entries that
-/// were stored after the call, whatever other callers do, and so none that was found with it
-/// before.
+/// were stored after the call, whatever other callers do, and so none that the past had seen: found
+/// with it, or learned of by `learn`.
 ///
 /// Clauses see two prefixes of the shard's history: what the caller has seen (`seen`), and the
 /// prefix after which an entry must have been stored for the caller to find it (`since`). The
@@ -258,6 +258,9 @@ impl<K, V> Past<K, V> {
     pub(crate) fn find(&self, track: &Track<K, V>, arrival: &Arrival<K, V>) -> Option<Log<K, V>>
         requires book { self.now.book ≡ track.now.word.book }
         requires arrival { arrival.now.log.book ≡ track.now.word.book }
+        ensures ours { IfSome result (λ seen. seen.book ≡ track.now.word.book) }
+        ensures comes { IfSome result (λ seen. (e : Entry_ K V)
+            → Arrives track.now.word arrival.now e → ComesTo track.now.word.key e seen.log) }
         ensures book { IfSome result (λ seen. seen.book ≡ self.now.book) }
         ensures later { IfSome result (λ seen. IsPrefix self.now.seen seen.log) }
         ensures came { IfSome result (λ seen. (e : Entry_ K V)
@@ -306,6 +309,9 @@ impl<K, V> Arrival<K, V> {
     ) -> Option<Log<K, V>>
         requires arrival { self.now.log.book ≡ track.now.word.book }
         requires book { IfSome past.now (λ p. p.book ≡ track.now.word.book) }
+        ensures ours { IfSome result (λ seen. seen.book ≡ track.now.word.book) }
+        ensures comes { IfSome result (λ seen. (e : Entry_ K V)
+            → Arrives track.now.word self.now e → ComesTo track.now.word.key e seen.log) }
         ensures book { IfSome past.now (λ past. IfSome result (λ seen. seen.book ≡ past.book)) }
         ensures later { IfSome past.now
             (λ past. IfSome result (λ seen. IsPrefix past.seen seen.log)) }
@@ -347,15 +353,17 @@ impl<K, V> Chronicle<K, V> {
         }
     }
 
-    /// Returns a past that has seen nothing, so that every entry is stored after it.
-    #[inline(always)]
+    /// Returns a past that has seen the history up to this call. Its `since` is the beginning, so
+    /// that every entry is stored after it.
     pub fn past(&self) -> Past<K, V>
         ensures book { result.book ≡ self.now.first.book }
+        ensures since { result.since ≡ self.now.first.log }
     {
+        let (_, seen) = self.numbers.look(&self.first);
         Past {
             number: 1,
             since: self.first.again(),
-            seen: self.first.again(),
+            seen,
         }
     }
 

@@ -60,7 +60,8 @@ impl<K: Hash + Eq + Clone + Drop, V: Drop, F: Fit<K, V>> Shard<K, V, F> {
         })
     }
 
-    /// Returns a past that has seen nothing, so that every entry is stored after it.
+    /// Returns a past that has seen the history up to this call. Its `since` is the beginning, so
+    /// that every entry is stored after it.
     pub fn past(&self) -> Past<K, V>
         ensures book { result.book ≡ self.now.core.store.chronicle.first.book }
     {
@@ -134,7 +135,8 @@ impl<K: Hash + Eq + Clone + Drop, V: Drop, F: Fit<K, V>> Shard<K, V, F> {
         }
     }
 
-    // Acquires the lock once there is room for a charge, or no entry left that can be evicted.
+    // Acquires the lock once there is room for a new entry of this charge, or no entry left that
+    // can be evicted, or the limit refuses the new entry in any case.
     #[inline(always)]
     fn lock_with_room<R: Wait>(
         &self,
@@ -146,7 +148,7 @@ impl<K: Hash + Eq + Clone + Drop, V: Drop, F: Fit<K, V>> Shard<K, V, F> {
     {
         for _ in rt.forever() {
             let mut guard = self.lock(rt);
-            let left = self.core.make_room(&mut guard, charge, &mut Looks::new());
+            let left = self.core.make_room_for(&mut guard, charge);
             if left.is_none() || !guard.is_above(charge) {
                 return (guard, left);
             }

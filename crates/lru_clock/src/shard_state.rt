@@ -61,6 +61,8 @@ pub struct Numbers {
 #[derive(Drop)]
 pub struct ShardState<K: Eq> {
     pub capacity: u64,
+    /// Whether the capacity is a strict limit.
+    pub is_strict: bool,
     pub seats: Seats<K>,
     pub makings: Makings<K>,
     pub counts: Counts,
@@ -68,7 +70,7 @@ pub struct ShardState<K: Eq> {
 }
 
 impl<K: Eq + Drop> ShardState<K> {
-    /// Creates the state of a shard without entries.
+    /// Creates the state of a shard without entries, whose limit is not strict.
     ///
     /// Returns `AllocError` if the allocator refuses.
     pub fn new(alloc: Global, capacity: u64) -> Result<Self, AllocError>
@@ -76,6 +78,7 @@ impl<K: Eq + Drop> ShardState<K> {
     {
         Ok(ShardState {
             capacity,
+            is_strict: false,
             seats: Seats::new(alloc)?,
             makings: Makings::new(alloc),
             counts: Counts::default(),
@@ -130,6 +133,7 @@ impl<K: Eq + Drop> ShardState<K> {
         ensures order { self.new.order
             ≡ left taken.entry.place (charge_at self.old.seats taken.entry.place)
             (cond is_evicted (tag_at self.old.seats taken.entry.place) None) self.old.order }
+        ensures makings { self.new.makings ≡ self.old.makings }
     {
         let place = taken.place();
         let tag = if is_evicted {

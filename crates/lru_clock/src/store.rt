@@ -41,6 +41,9 @@ const FIRST_PAGE: usize = 64;
 // With this many pages, every place fits a `u32`.
 const PAGES: usize = 184;
 
+/// The maximum number of slots of a shard.
+pub const MOST_SLOTS: usize = 4_294_966_784;
+
 // The maximum number of indexes, since each is twice as large as the one before it.
 const LEVELS: usize = 26;
 
@@ -264,8 +267,8 @@ impl<K: Eq + Drop, V: Drop, F: Fit<K, V>> Store<K, V, F> {
         Ok(store)
     }
 
-    /// Returns a past that has seen nothing, so that every entry is stored after it.
-    #[inline(always)]
+    /// Returns a past that has seen the history up to this call. Its `since` is the beginning, so
+    /// that every entry is stored after it.
     pub fn past(&self) -> Past<K, V>
         ensures book { result.book ≡ self.now.chronicle.first.book }
     {
@@ -297,6 +300,7 @@ impl<K: Eq + Drop, V: Drop, F: Fit<K, V>> Store<K, V, F> {
     ) -> Result<(u32, Pin<'a, K, V, F>), (Reservation<K>, Kept<K, V, F>)>
         requires fits { F.fits kept.key kept.value }
         requires asked { F.fits key.now kept.value }
+        requires equal { K.eq kept.key key.now ≡ true }
         requires copy { IfSome reservation.key.value (λ copy. K.eq copy kept.key ≡ true) }
         requires book { IfSome left.old (λ l. IfSome l (λ b. b ≡ self.now.chronicle.first.book)) }
         ensures place { MatchResult result (λ filled. filled.0 ≡ reservation.place)
@@ -304,6 +308,7 @@ impl<K: Eq + Drop, V: Drop, F: Fit<K, V>> Store<K, V, F> {
         ensures pin { IfOk result
             (λ filled. (filled.1.key ≡ key.now) × F.fits key.now filled.1.value) }
         ensures value { IfOk result (λ filled. filled.1.value ≡ kept.value) }
+        ensures book { IfOk result (λ filled. filled.1.book ≡ self.now.chronicle.first.book) }
     {
         // Always `Some`, since nobody else draws a number without the lock.
         let Some((number, seen)) = self.chronicle.draw() else {

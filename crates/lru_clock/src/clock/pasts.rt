@@ -1,7 +1,7 @@
 //! The calls that take a `Past`, with which a caller finds nothing from before its invalidations.
 ghost use Rattle.std.specs.Prelude.{◌≡◌, ◌≢◌, None, IfOk, IfErr, IfSome};
 ghost use mathlib.Core.List.{IsPrefix};
-ghost use Rattle.lru_clock.specs.Hits.{IsFresh};
+ghost use Rattle.lru_clock.specs.Hits.{HasArrived, IsFresh};
 ghost use Rattle.lru_clock.specs.Shards.{IsBookOf, IsEvidenceOf};
 
 use crate::clock::{Cache, CacheHandle, Invalidated};
@@ -18,8 +18,8 @@ impl<K: Hash + Eq + Clone + Drop, V: Drop, R: Wait, S: BuildHasher, F: Fit<K, V>
     S,
     F,
 > {
-    /// Returns a new past of the key's shard. Until the first `invalidate_since` with it,
-    /// `find_since` finds what `find` would. Takes no memory.
+    /// Returns a new past of the key's shard, which has seen what is there now. Until the first
+    /// `invalidate_since` with it, `find_since` finds what `find` would. Takes no memory.
     pub fn past(&self, key: &K) -> Past<K, V>
         ensures book { IsBookOf S.BuildHasher S.Hasher.Hasher K.hash_input self.now key.now
             result.book }
@@ -31,10 +31,10 @@ impl<K: Hash + Eq + Clone + Drop, V: Drop, R: Wait, S: BuildHasher, F: Fit<K, V>
     /// `find`, limited to entries that were stored after the last `invalidate_since` with this
     /// past.
     ///
-    /// So an entry that was found with this past before that call is not found again. A hit extends
-    /// the prefix of the history that the past has seen, and the entry is in the cache at the end
-    /// of that prefix. A copy of a past begins with what the past has seen by then. Reads one more
-    /// word than `find`.
+    /// So an entry that this past had seen before that call is not found again: one that was found
+    /// with it, or that it has learned of by `Past::learn`. A hit extends the prefix of the history
+    /// that the past has seen, and the entry is in the cache at the end of that prefix. A copy of a
+    /// past begins with what the past has seen by then. Reads one more word than `find`.
     ///
     /// Returns `Overflow` as `get` does.
     #[inline(always)]
@@ -50,6 +50,7 @@ impl<K: Hash + Eq + Clone + Drop, V: Drop, R: Wait, S: BuildHasher, F: Fit<K, V>
         ensures fits { IfOk result (λ found. IfSome found (λ h. F.fits key.now h.value)) }
         ensures never_stale { IfErr result (λ e. e ≢ Refusal.Stale) }
         ensures book { past.new.book ≡ past.old.book }
+        ensures same_book { IfOk result (λ found. IfSome found (λ h. h.book ≡ past.old.book)) }
         ensures since { past.new.since ≡ past.old.since }
         ensures later { IsPrefix past.old.seen past.new.seen }
         ensures come { IfOk result (λ found. IfSome found
@@ -81,5 +82,23 @@ impl<K: Hash + Eq + Clone + Drop, V: Drop, R: Wait, S: BuildHasher, F: Fit<K, V>
     {
         let (shard, tag) = self.route(key);
         shard.invalidate_since(&self.rt, tag, key, past)
+    }
+}
+
+impl<K: Hash + Eq + Clone, V> Past<K, V> {
+    /// From now on, the past has also seen the entry of a handle, whatever call returned the
+    /// handle. So after an `invalidate_since` with this past, `find_since` with it does not return
+    /// that entry. Has no effect at run time.
+    pub fn learn<R: Wait, F: Fit<K, V>>(&mut self, handle: &CacheHandle<'_, K, V, R, F>)
+        requires book { handle.now.book ≡ self.old.book }
+        ensures book { self.new.book ≡ self.old.book }
+        ensures since { self.new.since ≡ self.old.since }
+        ensures later { IsPrefix self.old.seen self.new.seen }
+        ensures learned { IsPrefix handle.now.log self.new.seen }
+        ensures arrived { HasArrived K.eq handle.now.log handle.now.key handle.now.value }
+    {
+        let mut seen = self.seen();
+        seen.learn(&handle.seen());
+        *self = self.after(seen);
     }
 }

@@ -1,15 +1,15 @@
 //! The changes of a shard: entries that come, and entries that leave other than by eviction.
-ghost use Rattle.std.specs.Prelude.{◌≡◌, ◌≢◌, true, None, Some, IfErr, IfOk, IfSome};
+ghost use Rattle.std.specs.Prelude.{◌≡◌, ◌≢◌, false, true, None, Some, IfErr, IfOk, IfSome};
 ghost use Rattle.std.specs.Prelude.{MatchOption, MatchResult, sum_by};
 ghost use Rattle.std.proofs.Math.ListN.{set};
-ghost use Rattle.lru_clock.specs.Evictions.{Comes};
+ghost use Rattle.lru_clock.specs.Evictions.{Comes, refuses};
 ghost use Rattle.lru_clock.specs.Orders.{IsWidened};
-ghost use Rattle.lru_clock.specs.SeatChanges.{AddsVacant, Charges, KeepsCharges};
+ghost use Rattle.lru_clock.specs.SeatChanges.{AddsVacant, Charges, KeepsCharges, Reserves};
 ghost use Rattle.lru_clock.specs.Seats.{seat, LacksKey};
 
 use crate::clock_core::Core;
 use crate::shard_state::ShardState;
-use crate::store::{Kept, Left, Looks, Pin, Reservation};
+use crate::store::{Kept, Left, MOST_SLOTS, Pin, Reservation};
 use concurrent_lru::fit::Fit;
 use concurrent_lru::sharded::Refusal;
 use std::marker::PhantomData;
@@ -21,6 +21,7 @@ impl<K: Eq + Clone + Drop, V: Drop, F: Fit<K, V>> Core<K, V, F> {
     pub fn new_entry(&self, key: &K, value: V) -> Result<Kept<K, V, F>, Refusal>
         requires fits { F.fits key.now value }
         ensures fits { IfOk result (λ kept. F.fits kept.key kept.value) }
+        ensures equal { IfOk result (λ kept. K.eq kept.key key.now ≡ true) }
         ensures value { IfOk result (λ kept. kept.value ≡ value) }
         ensures err { IfErr result (λ e. e ≡ Refusal.Memory) }
     {
@@ -35,13 +36,14 @@ impl<K: Eq + Clone + Drop, V: Drop, F: Fit<K, V>> Core<K, V, F> {
     /// a `u64`, and that there is a vacant place, which is added if there is none.
     ///
     /// Returns `Overflow` if the sum does not, and `Memory` and `Overflow` as `Store::grow` does.
-    #[tactic(auto, using(crate::proofs::FirstBits::same_widened))]
+    #[tactic(auto, using(crate::proofs::FirstBits::same_widened, crate::proofs::Seating::Vacant::none_added))]
     pub fn admit(&self, state: &mut ShardState<K>, charge: u64) -> Result<(), Refusal>
         ensures never_stale { IfErr result (λ e. e ≢ Refusal.Stale) }
         ensures order { IsWidened state.old.order state.new.order }
         ensures capacity { state.new.capacity ≡ state.old.capacity }
         ensures total { sum_by (λ seat. seat.charge) state.new.seats
             ≡ sum_by (λ seat. seat.charge) state.old.seats }
+        ensures seats { AddsVacant state.old.seats state.new.seats }
         ensures makings { state.new.makings ≡ state.old.makings }
     {
         if state.seats.total().checked_add(charge).is_none() {
@@ -58,7 +60,8 @@ impl<K: Eq + Clone + Drop, V: Drop, F: Fit<K, V>> Core<K, V, F> {
     /// copy of its key is already invalidated, and only this caller gets it. If the place is that
     /// of the entry that has just left, the new entry takes its slot.
     ///
-    /// Returns `Memory` and `Overflow` as `admit` does, with the entry that was refused.
+    /// Returns `Memory` and `Overflow` as `admit` does, and `Full` if the limit is strict and the
+    /// charge would take the total above the capacity, each with the entry that was refused.
     #[inline(always)]
     pub fn put<'a>(
         &'a self,
@@ -72,13 +75,18 @@ impl<K: Eq + Clone + Drop, V: Drop, F: Fit<K, V>> Core<K, V, F> {
     ) -> Result<(u32, Pin<'a, K, V, F>), (Refusal, Left<'a, K, V, F>)>
         requires fits { F.fits kept.key kept.value }
         requires asked { F.fits key.now kept.value }
+        requires equal { K.eq kept.key key.now ≡ true }
         requires copy { IfSome key_copy (λ copy. K.eq copy kept.key ≡ true) }
         requires book { IfSome left.old
             (λ l. IfSome l (λ b. b ≡ self.now.store.chronicle.first.book)) }
         ensures pin { IfOk result
             (λ found. (found.1.key ≡ key.now) × F.fits key.now found.1.value) }
         ensures value { IfOk result (λ found. found.1.value ≡ kept.value) }
+        ensures book { IfOk result
+            (λ found. found.1.book ≡ self.now.store.chronicle.first.book) }
         ensures never_stale { IfErr result (λ e. e.0 ≢ Refusal.Stale) }
+        ensures within { IfOk result (λ _. refuses state.old.is_strict state.old.capacity
+            state.old.seats charge ≡ false) }
         ensures order { MatchResult result
             (λ found. Comes state.new.seats found.0 state.old.capacity
             state.old.order state.new.order)
@@ -87,8 +95,12 @@ impl<K: Eq + Clone + Drop, V: Drop, F: Fit<K, V>> Core<K, V, F> {
             (λ found. Charges charge found.0 state.old.seats state.new.seats)
             (λ _. sum_by (λ seat. seat.charge) state.new.seats
             ≡ sum_by (λ seat. seat.charge) state.old.seats) }
+        ensures refused { IfErr result (λ _. AddsVacant state.old.seats state.new.seats) }
         ensures makings { state.new.makings ≡ state.old.makings }
     {
+        if state.refuses(charge, state.is_strict) {
+            return Err((Refusal::Full, Left::refused(kept, key_copy)));
+        }
         let is_listed = key_copy.is_some();
         let reservation = match self.reserve_seat(state, charge, tag, key_copy) {
             Ok(reservation) => reservation,
@@ -109,7 +121,7 @@ impl<K: Eq + Clone + Drop, V: Drop, F: Fit<K, V>> Core<K, V, F> {
 
     // Adds an entry to the index. If the index has another entry of its key, or the entry has no
     // copy of its key, invalidates it.
-    fn list(&self, state: &mut ShardState<K>, place: u32)
+    pub(crate) fn list(&self, state: &mut ShardState<K>, place: u32)
         ensures same { state.new ≡ record state.old { seats = state.new.seats } }
         ensures charges { KeepsCharges state.old.seats state.new.seats }
     {
@@ -123,7 +135,7 @@ impl<K: Eq + Clone + Drop, V: Drop, F: Fit<K, V>> Core<K, V, F> {
     // Takes a vacant place for an entry, and counts its charge.
     //
     // Returns the copy of its key with the refusal if the entry cannot be stored.
-    fn reserve_seat(
+    pub(crate) fn reserve_seat(
         &self,
         state: &mut ShardState<K>,
         charge: u64,
@@ -138,6 +150,9 @@ impl<K: Eq + Clone + Drop, V: Drop, F: Fit<K, V>> Core<K, V, F> {
             (λ r. Charges charge r.place state.old.seats state.new.seats)
             (λ _. sum_by (λ seat. seat.charge) state.new.seats
             ≡ sum_by (λ seat. seat.charge) state.old.seats) }
+        ensures seats { MatchResult result
+            (λ r. Reserves state.old.seats r.place state.new.seats)
+            (λ _. AddsVacant state.old.seats state.new.seats) }
         ensures makings { state.new.makings ≡ state.old.makings }
     {
         if let Err(refusal) = self.admit(state, charge) {
@@ -146,23 +161,6 @@ impl<K: Eq + Clone + Drop, V: Drop, F: Fit<K, V>> Core<K, V, F> {
         match state.seats.reserve(charge, tag, key_copy) {
             Ok(reservation) => Ok(reservation),
             Err(key_copy) => Err((Refusal::Overflow, key_copy)),
-        }
-    }
-
-    /// Invalidates the key's entry. If that removes no entry, evicts one if the charge needs the
-    /// room.
-    pub fn replace(
-        &self,
-        state: &mut ShardState<K>,
-        tag: u32,
-        key: &K,
-        charge: u64,
-    ) -> Option<Left<'_, K, V, F>>
-        ensures { IfSome result (λ l. l ≡ Some self.now.store.chronicle.first.book) }
-    {
-        match self.invalidate_entry(state, tag, key) {
-            Some(leaver) => Some(leaver),
-            None => self.make_room(state, charge, &mut Looks::new()),
         }
     }
 
@@ -176,6 +174,7 @@ impl<K: Eq + Clone + Drop, V: Drop, F: Fit<K, V>> Core<K, V, F> {
     ) -> Option<Left<'_, K, V, F>>
         ensures book { IfSome result (λ l. l ≡ Some self.now.store.chronicle.first.book) }
         ensures gone { LacksKey K.eq state.new.seats tag key.now }
+        ensures makings { state.new.makings ≡ state.old.makings }
     {
         let place = state.seats.find(tag, key)?;
         state.seats.unlist(place);
@@ -186,8 +185,9 @@ impl<K: Eq + Clone + Drop, V: Drop, F: Fit<K, V>> Core<K, V, F> {
 
     /// Evicts the entry at a place if nobody has pinned it.
     pub fn take_idle(&self, state: &mut ShardState<K>, place: u32) -> Option<Left<'_, K, V, F>>
-        ensures { MatchOption result (state.new ≡ state.old)
+        ensures seats { MatchOption result (state.new ≡ state.old)
             (λ _. state.new.seats ≡ set state.old.seats place (seat 0 0 None)) }
+        ensures makings { state.new.makings ≡ state.old.makings }
     {
         let taken = self.store.take_idle(place)?;
         Some(state.vacate(taken, false))
@@ -214,7 +214,8 @@ impl<K: Eq + Clone + Drop, V: Drop, F: Fit<K, V>> Core<K, V, F> {
 
     /// Adds slots until there are as many as `entries`.
     ///
-    /// Returns `Memory` and `Overflow` as `Store::grow` does. No entry changes.
+    /// Returns `Overflow` if that is above the maximum number of slots; then nothing changes.
+    /// Returns `Memory` as `Store::grow` does. No entry changes.
     pub fn grow_to(&self, state: &mut ShardState<K>, entries: usize) -> Result<(), Refusal>
         ensures never_stale { IfErr result (λ e. e ≢ Refusal.Stale) }
         ensures same { state.new ≡ record state.old {
@@ -223,6 +224,9 @@ impl<K: Eq + Clone + Drop, V: Drop, F: Fit<K, V>> Core<K, V, F> {
         } }
         ensures seats { AddsVacant state.old.seats state.new.seats }
     {
+        if entries > MOST_SLOTS {
+            return Err(Refusal::Overflow);
+        }
         for _ in state.seats.len()..entries {
             self.store
                 .grow(self.alloc, &mut state.seats, &mut state.order)?;

@@ -91,8 +91,7 @@ impl<K: Eq + Clone + Drop, V: Copy + Drop, F: Fit<K, V>> Core<K, V, F> {
     {
         match self.end_hold(place)? {
             Released::Pinned => Some(None),
-            Released::Idle => Some(self.take_idle(state, place)),
-            Released::Invalidated => Some(self.take_idle(state, place)),
+            Released::Idle | Released::Invalidated => Some(self.take_idle(state, place)),
         }
     }
 

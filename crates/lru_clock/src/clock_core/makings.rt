@@ -1,5 +1,5 @@
-//! The making of values, and how it goes on by callers that cannot keep a ticket or a pin: they have
-//! the number of the making, and hold the entry.
+//! The making of values, and how it goes on by callers that cannot keep a ticket or a pin: they
+//! have the number of the making, and hold the entry.
 ghost use Rattle.std.specs.Prelude.{◌≡◌, ◌≢◌, false, true, IfErr, IfOk, MatchBool, MatchOption};
 ghost use Rattle.std.specs.List.{list_any};
 ghost use Rattle.lru_clock.specs.Begun.{IsBegun};
@@ -26,8 +26,9 @@ impl<K: Eq + Clone + Drop, V: Drop, F: Fit<K, V>> Core<K, V, F> {
     /// Begins the making of a key's value, and returns its ticket. Returns `None` if another caller
     /// is making it.
     ///
-    /// Returns `Overflow` if the charge would take the total past `u64::MAX`, and `Overflow` and
-    /// `Memory` as `Makings::begin` does. Nothing changes then.
+    /// Returns `Overflow` if the charge would take the total past `u64::MAX`, `Full` if the limit
+    /// is strict and has no room for the charge, and `Overflow` and `Memory` as `Makings::begin`
+    /// does. Nothing changes then.
     pub fn start(
         &self,
         state: &mut ShardState<K>,
@@ -47,6 +48,9 @@ impl<K: Eq + Clone + Drop, V: Drop, F: Fit<K, V>> Core<K, V, F> {
         }
         if state.seats.total().checked_add(charge).is_none() {
             return Err(Refusal::Overflow);
+        }
+        if self.is_full_for(state, charge) {
+            return Err(Refusal::Full);
         }
         let key_copy = key.clone()?;
         Ok(Some(state.makings.begin(key_copy)?))
@@ -70,8 +74,8 @@ impl<K: Eq + Clone + Drop, V: Drop, F: Fit<K, V>> Core<K, V, F> {
 impl<K: Eq + Clone + Drop, V: Copy + Drop, F: Fit<K, V>> Core<K, V, F> {
     /// Holds the key's entry, or begins the making of its value. Evicts nothing.
     ///
-    /// Returns `Overflow` as `hold_listed` does, and `Overflow` and `Memory` as `start` does.
-    /// Nothing changes then.
+    /// Returns `Overflow` as `hold_listed` does, and `Overflow`, `Full` and `Memory` as `start`
+    /// does. Nothing changes then.
     pub fn begin_held(
         &self,
         state: &mut ShardState<K>,

@@ -7,7 +7,7 @@ use crate::clock_core::Invalidated;
 use crate::history::Past;
 use crate::makings::{Ended, Ticket};
 use crate::shard::Shard;
-use crate::store::Pin;
+use crate::store::{Looks, Pin};
 use concurrent_lru::fit::Fit;
 use concurrent_lru::sharded::Refusal;
 use std::hash::Hash;
@@ -35,7 +35,8 @@ impl<K: Hash + Eq + Clone + Drop, V: Drop, F: Fit<K, V>> Shard<K, V, F> {
     /// Stores the value that was made under a ticket, ends the making, and returns a pin of the
     /// entry. If the key was invalidated meanwhile, the value is stored for this caller alone.
     ///
-    /// Returns `Memory` and `Overflow` if the entry is refused; the making then counts as failed.
+    /// Returns `Memory`, `Overflow` and `Full` if the entry is refused; the making then counts as
+    /// failed.
     #[inline(never)]
     pub fn finish<R: Wait>(
         &self,
@@ -50,6 +51,8 @@ impl<K: Hash + Eq + Clone + Drop, V: Drop, F: Fit<K, V>> Shard<K, V, F> {
         ensures pin { IfOk result
             (λ found. (found.1.key ≡ key.now) × F.fits key.now found.1.value) }
         ensures value { IfOk result (λ found. found.1.value ≡ value) }
+        ensures book { IfOk result
+            (λ found. found.1.book ≡ self.now.core.store.chronicle.first.book) }
         ensures never_stale { IfErr result (λ e. e ≢ Refusal.Stale) }
     {
         let kept = match self.core.new_entry(key, value) {
@@ -94,8 +97,8 @@ impl<K: Hash + Eq + Clone + Drop, V: Drop, F: Fit<K, V>> Shard<K, V, F> {
 
     /// Stores a value, replacing the key's entry, and returns a pin of the new entry.
     ///
-    /// Returns `Memory` and `Overflow` if the new entry is refused. The old one then stays, unless
-    /// it was removed before another entry was, and other callers took the room meanwhile.
+    /// Returns `Memory`, `Overflow` and `Full` if the new entry is refused. The key's entry then
+    /// stays as it was, unless it was evicted to make room, as any other entry may be.
     pub fn insert<R: Wait>(
         &self,
         rt: &R,
@@ -108,32 +111,33 @@ impl<K: Hash + Eq + Clone + Drop, V: Drop, F: Fit<K, V>> Shard<K, V, F> {
         ensures pin { IfOk result
             (λ found. (found.1.key ≡ key.now) × F.fits key.now found.1.value) }
         ensures value { IfOk result (λ found. found.1.value ≡ value) }
+        ensures book { IfOk result
+            (λ found. found.1.book ≡ self.now.core.store.chronicle.first.book) }
         ensures never_stale { IfErr result (λ e. e ≢ Refusal.Stale) }
     {
         let kept = self.core.new_entry(key, value)?;
         let key_copy = kept.key.clone()?;
         for _ in rt.forever() {
             let mut guard = self.lock(rt);
-            if let Err(refusal) = self.core.admit(&mut guard, charge) {
-                self.unlock(guard, None);
-                return Err(refusal);
-            }
-            let mut left = self.core.replace(&mut guard, tag, key, charge);
-            if left.is_some() && guard.is_above(charge) {
-                self.unlock(guard, left);
+            let evicted = match self.core.make_way(&mut guard, tag, key, charge) {
+                Ok(evicted) => evicted,
+                Err(refusal) => {
+                    self.unlock(guard, None);
+                    return Err(refusal);
+                }
+            };
+            // At most one entry leaves each time: the key's does the next time.
+            if evicted.is_some()
+                && (guard.is_above(charge) || guard.seats.find(tag, key).is_some())
+            {
+                self.unlock(guard, evicted);
                 continue;
             }
-            guard.makings.invalidate(key);
-            let stored = self.core.put(
-                &mut guard,
-                tag,
-                key,
-                charge,
-                kept,
-                Some(key_copy),
-                &mut left,
-            );
+            let (stored, left) = self
+                .core
+                .store_over(&mut guard, tag, key, charge, kept, key_copy, evicted);
             if stored.is_ok() {
+                guard.makings.invalidate(key);
                 guard.counts.insertions = guard.counts.insertions.wrapping_add(1);
             }
             self.wake(&guard);
@@ -187,10 +191,7 @@ impl<K: Hash + Eq + Clone + Drop, V: Drop, F: Fit<K, V>> Shard<K, V, F> {
     /// Evicts the key's entry, whatever its chances, if nobody has pinned it.
     pub fn advise<R: Wait>(&self, rt: &R, tag: u32, key: &K) {
         let mut guard = self.lock(rt);
-        let left = match guard.seats.find(tag, key) {
-            Some(place) => self.core.take_idle(&mut guard, place),
-            None => None,
-        };
+        let left = self.core.take_idle_of(&mut guard, tag, key);
         self.unlock(guard, left);
     }
 
@@ -214,13 +215,33 @@ impl<K: Hash + Eq + Clone + Drop, V: Drop, F: Fit<K, V>> Shard<K, V, F> {
         let mut guard = self.lock(rt);
         guard.set_capacity(capacity);
         self.unlock(guard, None);
-        let (guard, left) = self.lock_with_room(rt, 0);
-        self.unlock(guard, left);
+        self.evict_excess(rt);
+    }
+
+    // Evicts down to the capacity.
+    fn evict_excess<R: Wait>(&self, rt: &R) {
+        for _ in rt.forever() {
+            let mut guard = self.lock(rt);
+            let left = self.core.make_room(&mut guard, 0, &mut Looks::new());
+            let is_done = left.is_none() || !guard.is_above(0);
+            self.unlock(guard, left);
+            if is_done {
+                return;
+            }
+        }
+        unreachable!()
+    }
+
+    /// Sets whether the capacity is a strict limit. Evicts nothing.
+    pub fn set_strict_limit<R: Wait>(&self, rt: &R, strict: bool) {
+        let mut guard = self.lock(rt);
+        guard.is_strict = strict;
+        self.unlock(guard, None);
     }
 
     /// Adds slots until there are as many as `entries`.
     ///
-    /// Returns `Memory` and `Overflow` as `Store::grow` does. No entry changes.
+    /// Returns `Memory` and `Overflow` as `Core::grow_to` does. No entry changes.
     pub fn reserve<R: Wait>(&self, rt: &R, entries: usize) -> Result<(), Refusal>
         ensures { IfErr result (λ e. e ≢ Refusal.Stale) }
     {

@@ -30,6 +30,8 @@ impl<K: Hash + Eq + Clone + Drop, V: Drop, F: Fit<K, V>> Shard<K, V, F> {
             (λ past. past.book ≡ self.now.core.store.chronicle.first.book) }
         ensures pin { IfOk result (λ found. IfSome found
             (λ f. (f.1.key ≡ key.now) × F.fits key.now f.1.value)) }
+        ensures book { IfOk result (λ found. IfSome found
+            (λ f. f.1.book ≡ self.now.core.store.chronicle.first.book)) }
         ensures since { IfSome past.now (λ past. IfOk result (λ found. IfSome found
             (λ f. Sees K.eq past key.now f.1.value f.1.book f.1.log))) }
         ensures refused { IfErr result (λ e. e ≡ Refusal.Overflow) }
@@ -54,6 +56,8 @@ impl<K: Hash + Eq + Clone + Drop, V: Drop, F: Fit<K, V>> Shard<K, V, F> {
             (λ past. past.book ≡ self.now.core.store.chronicle.first.book) }
         ensures pin { IfOk result (λ found. IfSome found
             (λ f. (f.1.key ≡ key.now) × F.fits key.now f.1.value)) }
+        ensures book { IfOk result (λ found. IfSome found
+            (λ f. f.1.book ≡ self.now.core.store.chronicle.first.book)) }
         ensures since { IfSome past.now (λ past. IfOk result (λ found. IfSome found
             (λ f. Sees K.eq past key.now f.1.value f.1.book f.1.log))) }
         ensures refused { IfErr result (λ e. e ≡ Refusal.Overflow) }
@@ -91,6 +95,8 @@ impl<K: Hash + Eq + Clone + Drop, V: Drop, F: Fit<K, V>> Shard<K, V, F> {
             (λ past. past.book ≡ self.now.core.store.chronicle.first.book) }
         ensures pin { IfOk result (λ found. IfSome found
             (λ f. (f.1.key ≡ key.now) × F.fits key.now f.1.value)) }
+        ensures book { IfOk result (λ found. IfSome found
+            (λ f. f.1.book ≡ self.now.core.store.chronicle.first.book)) }
         ensures since { IfSome past.now (λ past. IfOk result (λ found. IfSome found
             (λ f. Sees K.eq past key.now f.1.value f.1.book f.1.log))) }
         ensures refused { IfErr result (λ e. e ≡ Refusal.Overflow) }
@@ -103,7 +109,7 @@ impl<K: Hash + Eq + Clone + Drop, V: Drop, F: Fit<K, V>> Shard<K, V, F> {
 
     /// Pins the key's entry without the lock, or else does what `begin` does.
     ///
-    /// Returns `Overflow` and `Memory` as `begin` does.
+    /// Returns `Overflow`, `Full` and `Memory` as `begin` does.
     #[inline(always)]
     pub fn enter<R: Wait>(
         &self,
@@ -114,6 +120,8 @@ impl<K: Hash + Eq + Clone + Drop, V: Drop, F: Fit<K, V>> Shard<K, V, F> {
     ) -> Result<Turn<'_, K, V, F>, Refusal>
         ensures pin { IfOk result
             (λ turn. IfHit turn (λ p. (p.key ≡ key.now) × F.fits key.now p.value)) }
+        ensures book { IfOk result
+            (λ turn. IfHit turn (λ p. p.book ≡ self.now.core.store.chronicle.first.book)) }
         ensures never_stale { IfErr result (λ e. e ≢ Refusal.Stale) }
     {
         match self.find(tag, key, &None)? {
@@ -126,7 +134,8 @@ impl<K: Hash + Eq + Clone + Drop, V: Drop, F: Fit<K, V>> Shard<K, V, F> {
     /// it.
     ///
     /// Returns `Overflow` if the entry has the maximum number of pins, or if the charge would take
-    /// the total past `u64::MAX`, and `Memory` if a copy of the key is refused.
+    /// the total past `u64::MAX`, `Full` if the limit is strict and has no room for the charge, and
+    /// `Memory` if a copy of the key is refused.
     #[inline(never)]
     pub fn begin<R: Wait>(
         &self,
@@ -137,6 +146,8 @@ impl<K: Hash + Eq + Clone + Drop, V: Drop, F: Fit<K, V>> Shard<K, V, F> {
     ) -> Result<Turn<'_, K, V, F>, Refusal>
         ensures pin { IfOk result
             (λ turn. IfHit turn (λ p. (p.key ≡ key.now) × F.fits key.now p.value)) }
+        ensures book { IfOk result
+            (λ turn. IfHit turn (λ p. p.book ≡ self.now.core.store.chronicle.first.book)) }
         ensures never_stale { IfErr result (λ e. e ≢ Refusal.Stale) }
     {
         let (guard, turn) = self.begin_locked(rt, tag, key, charge);
@@ -157,22 +168,70 @@ impl<K: Hash + Eq + Clone + Drop, V: Drop, F: Fit<K, V>> Shard<K, V, F> {
     )
         ensures pin { IfOk result.1
             (λ turn. IfHit turn (λ p. (p.key ≡ key.now) × F.fits key.now p.value)) }
+        ensures book { IfOk result.1
+            (λ turn. IfHit turn (λ p. p.book ≡ self.now.core.store.chronicle.first.book)) }
         ensures never_stale { IfErr result.1 (λ e. e ≢ Refusal.Stale) }
     {
         let mut guard = self.lock(rt);
         for _ in rt.forever() {
-            match self.core.find_listed(&mut guard, tag, key, &None) {
-                Ok(None) => {}
-                Ok(Some((place, pin))) => return (guard, Ok(Turn::Hit(place, pin))),
-                Err(refusal) => return (guard, Err(refusal)),
-            }
-            match self.core.start(&mut guard, key, charge) {
-                Ok(Some(ticket)) => return (guard, Ok(Turn::Make(ticket))),
+            match self.take_turn(&mut guard, tag, key, charge) {
+                Ok(Some(turn)) => return (guard, Ok(turn)),
                 Ok(None) => guard = self.wait(rt, guard),
                 Err(refusal) => return (guard, Err(refusal)),
             }
         }
         unreachable!()
+    }
+
+    /// `enter`, but never waits: returns `None` if another caller is making the value.
+    ///
+    /// Returns `Overflow` and `Memory` as `begin` does.
+    pub fn try_enter<R: Wait>(
+        &self,
+        rt: &R,
+        tag: u32,
+        key: &K,
+        charge: u64,
+    ) -> Result<Option<Turn<'_, K, V, F>>, Refusal>
+        ensures pin { IfOk result (λ found. IfSome found
+            (λ turn. IfHit turn (λ p. (p.key ≡ key.now) × F.fits key.now p.value))) }
+        ensures book { IfOk result (λ found. IfSome found
+            (λ turn. IfHit turn (λ p. p.book ≡ self.now.core.store.chronicle.first.book))) }
+        ensures never_stale { IfErr result (λ e. e ≢ Refusal.Stale) }
+    {
+        if let Some((place, pin)) = self.find(tag, key, &None)? {
+            return Ok(Some(Turn::Hit(place, pin)));
+        }
+        let mut guard = self.lock(rt);
+        let turn = self.take_turn(&mut guard, tag, key, charge);
+        self.unlock(guard, None);
+        turn
+    }
+
+    // Pins the key's entry, or begins the making of its value. Returns `None` if another caller is
+    // making it.
+    //
+    // Returns `Overflow` and `Memory` as `begin` does.
+    fn take_turn(
+        &self,
+        state: &mut ShardState<K>,
+        tag: u32,
+        key: &K,
+        charge: u64,
+    ) -> Result<Option<Turn<'_, K, V, F>>, Refusal>
+        ensures pin { IfOk result (λ found. IfSome found
+            (λ turn. IfHit turn (λ p. (p.key ≡ key.now) × F.fits key.now p.value))) }
+        ensures book { IfOk result (λ found. IfSome found
+            (λ turn. IfHit turn (λ p. p.book ≡ self.now.core.store.chronicle.first.book))) }
+        ensures never_stale { IfErr result (λ e. e ≢ Refusal.Stale) }
+    {
+        if let Some((place, pin)) = self.core.find_listed(state, tag, key, &None)? {
+            return Ok(Some(Turn::Hit(place, pin)));
+        }
+        match self.core.start(state, key, charge)? {
+            Some(ticket) => Ok(Some(Turn::Make(ticket))),
+            None => Ok(None),
+        }
     }
 
     // Waits until a making ends or is invalidated.
@@ -195,6 +254,14 @@ impl<K: Hash + Eq + Clone + Drop, V: Drop, F: Fit<K, V>> Shard<K, V, F> {
         let place = guard.seats.find(tag, key);
         self.unlock(guard, None);
         place.is_some()
+    }
+
+    /// Returns whether the capacity is a strict limit.
+    pub fn is_limit_strict<R: Wait>(&self, rt: &R) -> bool {
+        let guard = self.lock(rt);
+        let is_strict = guard.is_strict;
+        self.unlock(guard, None);
+        is_strict
     }
 
     /// Returns the numbers of the shard.

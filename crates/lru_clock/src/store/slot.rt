@@ -39,11 +39,12 @@ ghost use Rattle.lru_slot.specs.Words.{readers, IsTurn};
 ghost use Rattle.lru_clock.specs.History.{entry};
 ghost use Rattle.lru_clock.specs.Arrivals.{Arrives};
 ghost use Rattle.lru_clock.specs.Claims.{HasValue};
-ghost use Rattle.lru_clock.specs.Hits.{Sees};
+ghost use Rattle.lru_clock.specs.Hits.{HasArrived, Sees};
 ghost use Rattle.lru_clock.specs.Looks.{after_look as after_look_};
 
 mod claimed;
 mod holds;
+mod pins;
 
 use crate::history::{Arrival, Chronicle, Count, Log, Past, Track};
 use crate::order::{Cost, Look};
@@ -122,6 +123,7 @@ pub struct Pin<'a, K: Eq, V, F: Fit<K, V>> {
 impl<'a, K: Eq, V, F: Fit<K, V>> Model for Pin<'a, K, V, F> {
     ghost use Rattle.std.specs.Prelude.{◌≡◌};
     ghost use Rattle.lru_clock.specs.Claims.{HasValue};
+    ghost use Rattle.lru_clock.specs.Hits.{HasArrived};
     ghost use Rattle.lru_clock.specs.Pins.{PinOf};
 
     ghost Value = { PinOf K V };
@@ -136,7 +138,8 @@ impl<'a, K: Eq, V, F: Fit<K, V>> Model for Pin<'a, K, V, F> {
     ghost invariant = { λ p. (p.claim.right ≡ 1)
         × (p.claim.tag ≡ p.slot.now.track.word)
         × HasValue p.claim.value p.shown.value
-        × F.fits p.asked.value p.shown.value };
+        × F.fits p.asked.value p.shown.value
+        × HasArrived K.eq p.seen.log p.asked.value p.shown.value };
 }
 
 /// The state of an entry after a pin of it was released.
@@ -221,6 +224,8 @@ impl<K: Eq + Drop, V: Drop, F: Fit<K, V>> Slot<K, V, F> {
         requires book { IfSome past.now (λ p. p.book ≡ self.now.track.word.book) }
         ensures pin { IfOk result (λ found. IfSome found
             (λ p. (p.key ≡ key.now) × F.fits key.now p.value)) }
+        ensures book { IfOk result (λ found. IfSome found
+            (λ p. p.book ≡ self.now.track.word.book)) }
         ensures since { IfSome past.now (λ past. IfOk result (λ found. IfSome found
             (λ p. Sees K.eq past key.now p.value p.book p.log))) }
         ensures refused { IfErr result (λ e. e ≡ Refusal.Overflow) }
@@ -248,6 +253,8 @@ impl<K: Eq + Drop, V: Drop, F: Fit<K, V>> Slot<K, V, F> {
         requires book { IfSome past.now (λ p. p.book ≡ self.now.track.word.book) }
         ensures pin { IfOk result (λ found. IfSome found
             (λ p. (p.key ≡ key.now) × F.fits key.now p.value)) }
+        ensures book { IfOk result (λ found. IfSome found
+            (λ p. p.book ≡ self.now.track.word.book)) }
         ensures since { IfSome past.now (λ past. IfOk result (λ found. IfSome found
             (λ p. Sees K.eq past key.now p.value p.book p.log))) }
         ensures refused { IfErr result (λ e. e ≡ Refusal.Overflow) }
@@ -299,8 +306,8 @@ impl<K: Eq + Drop, V: Drop, F: Fit<K, V>> Slot<K, V, F> {
         is_kept(self.cell.load())
     }
 
-    /// Calls `f` with the entry if it is present: with its key, its value, this charge and the number
-    /// of its pins. The entry is pinned meanwhile, and gets no chance.
+    /// Calls `f` with the entry if it is present: with its key, its value, this charge and the
+    /// number of its pins. The entry is pinned meanwhile, and gets no chance.
     pub fn visit<G>(&self, most_pins: u64, charge: u64, f: &mut G)
     where
         G: FnMut(&K, &V, u64, u32),
@@ -483,6 +490,9 @@ impl<K: Eq, V, F: Fit<K, V>> Stored<K, V, F> {
         requires book { IfSome past.now (λ p. p.book ≡ track.now.word.book) }
         ensures value { IfSome result (λ found. found.0.value ≡ self.now.kept.value) }
         ensures fits { IfSome result (λ found. F.fits key.now found.0.value) }
+        ensures book { IfSome result (λ found. found.1.book ≡ track.now.word.book) }
+        ensures arrived { IfSome result
+            (λ found. HasArrived K.eq found.1.log key.now found.0.value) }
         ensures since { IfSome past.now (λ past. IfSome result (λ found. Sees K.eq past key.now
             found.0.value found.1.book found.1.log)) }
     {
@@ -491,147 +501,5 @@ impl<K: Eq, V, F: Fit<K, V>> Stored<K, V, F> {
             return Some((Shown::of(&self.kept.value), seen));
         }
         None
-    }
-}
-
-// Returns whether two claims of one slot are of the same entry, by the numbers of the arrivals.
-fn have_one_entry<K: Eq, V, F: Fit<K, V>>(
-    claim: &Claim<'_, Option<Stored<K, V, F>>>,
-    other: &Claim<'_, Option<Stored<K, V, F>>>,
-) -> bool
-    requires read { (claim.now.right ≡ 1) × (other.now.right ≡ 1) }
-    requires slot { claim.now.tag ≡ other.now.tag }
-    ensures { IsTrue result → (v : V) → HasValue claim.now.value v → HasValue other.now.value v }
-{
-    match claim.get() {
-        Some(stored) => match other.get() {
-            Some(found) => stored.arrival.is(&found.arrival),
-            None => false,
-        },
-        None => false,
-    }
-}
-
-impl<'a, K: Eq, V, F: Fit<K, V>> Pin<'a, K, V, F> {
-    // Keeps a pin of an entry that `confirm` accepts, unless it exceeds the maximum, and releases
-    // any other pin.
-    #[inline(always)]
-    fn of_key(
-        slot: &'a Slot<K, V, F>,
-        claim: Claim<'a, Option<Stored<K, V, F>>>,
-        key: &K,
-        past: &Option<Past<K, V>>,
-        is_too_many: bool,
-    ) -> Result<Option<Self>, Refusal>
-        requires read { claim.right ≡ 1 }
-        requires slot { claim.tag ≡ slot.now.track.word }
-        requires book { IfSome past.now (λ p. p.book ≡ slot.now.track.word.book) }
-        ensures pin { IfOk result (λ found. IfSome found
-            (λ p. (p.key ≡ key.now) × F.fits key.now p.value)) }
-        ensures since { IfSome past.now (λ past. IfOk result (λ found. IfSome found
-            (λ p. Sees K.eq past key.now p.value p.book p.log))) }
-        ensures refused { IfErr result (λ e. e ≡ Refusal.Overflow) }
-    {
-        let found = match claim.get() {
-            Some(stored) => stored.confirm(key, &slot.track, past),
-            None => None,
-        };
-        match found {
-            Some((shown, seen)) => {
-                if is_too_many {
-                    claim.leave();
-                    return Err(Refusal::Overflow);
-                }
-                Ok(Some(Pin {
-                    slot,
-                    claim,
-                    asked: Shown::of(key),
-                    shown,
-                    seen,
-                }))
-            }
-            None => {
-                claim.leave();
-                Ok(None)
-            }
-        }
-    }
-
-    /// Returns the value.
-    #[inline(always)]
-    pub fn value(&self) -> &V
-        ensures value { result.now ≡ self.now.value }
-        ensures fits { F.fits self.now.key result.now }
-    {
-        match self.claim.get() {
-            Some(stored) => &stored.kept.value,
-            None => unreachable!(),
-        }
-    }
-
-    /// Returns the prefix of the history that was seen.
-    #[inline(always)]
-    pub fn seen(&self) -> Log<K, V>
-        ensures { (result.book ≡ self.now.book) × (result.log ≡ self.now.log) }
-    {
-        self.seen.again()
-    }
-
-    /// Pins the entry once more, even if it was invalidated, and gives it no chance.
-    ///
-    /// Returns `Overflow` if the entry has the maximum number of pins.
-    pub fn again(&self, most_pins: u64) -> Result<Self, Refusal>
-        requires limit { most_pins < 1073741823 }
-        ensures key { IfOk result (λ p. p.key ≡ self.now.key) }
-        ensures value { IfOk result (λ p. p.value ≡ self.now.value) }
-        ensures fits { IfOk result (λ p. F.fits p.key p.value) }
-        ensures refused { IfErr result (λ e. e ≡ Refusal.Overflow) }
-    {
-        let mut seen = self.slot.cell.load();
-        for _ in 0..u64::MAX {
-            let state = state_of(seen);
-            if (state != PRESENT && state != MARKED) || pins_of(seen) >= most_pins {
-                return Err(Refusal::Overflow);
-            }
-            let (found, claim) = self.slot.cell.turn(seen, seen + ONE_READER);
-            if found == seen {
-                // Always so, since no other entry comes to the slot while this pin exists, but only
-                // this comparison proves it.
-                if have_one_entry(&self.claim, &claim) {
-                    return Ok(Pin {
-                        slot: self.slot,
-                        claim,
-                        asked: self.asked.again(),
-                        shown: self.shown.again(),
-                        seen: self.seen.again(),
-                    });
-                }
-                claim.leave();
-                return Err(Refusal::Overflow);
-            }
-            claim.done();
-            seen = found;
-        }
-        Err(Refusal::Overflow)
-    }
-
-    /// Releases the pin, and returns the state of the entry afterwards.
-    #[inline(always)]
-    pub fn release(self) -> Released {
-        let Self {
-            slot: _,
-            claim,
-            asked: _,
-            shown: _,
-            seen: _,
-        } = self;
-        let seen = claim.leave();
-        if pins_of(seen) != 1 {
-            Released::Pinned
-        } else if state_of(seen) == MARKED {
-            Released::Invalidated
-        } else {
-            Released::Idle
-        }
     }
 }

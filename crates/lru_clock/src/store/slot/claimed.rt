@@ -1,5 +1,5 @@
 //! Slots that their holder alone may read and write.
-ghost use Rattle.std.specs.Prelude.{◌≡◌, ◌≤◌, IfOk};
+ghost use Rattle.std.specs.Prelude.{◌≡◌, ◌≤◌, true, IfOk};
 ghost use Rattle.lru_clock.specs.History.{turns};
 
 use crate::history::Log;
@@ -63,10 +63,12 @@ impl<'a, K: Eq + Drop, V: Drop, F: Fit<K, V>> Claimed<'a, K, V, F> {
     )
         requires fits { F.fits kept.key kept.value }
         requires asked { F.fits key.now kept.value }
+        requires equal { K.eq kept.key key.now ≡ true }
         requires book { seen.now.book ≡ self }
         requires drawn { number ≤ turns 1 seen.now.log }
         ensures pin { IfOk result.0 (λ p. (p.key ≡ key.now) × F.fits key.now p.value) }
         ensures value { IfOk result.0 (λ p. p.value ≡ kept.value) }
+        ensures book { IfOk result.0 (λ p. p.book ≡ self.entry) }
     {
         // Always `Some`, since nobody else changes the counter of a slot without the lock. The
         // entry that is about to leave, if there is one, leaves the history in the same step.

@@ -17,3 +17,8 @@ returns-clause-came g c = λ e at.
     let now : IsPrefix seen all = rw (sym (ap (λ s. s.log) c.again-both.ensures)) c.learn.ensures.2 in
     let since = prefix_trans past.since.log past.seen.log all c.self.invariant.1 (prefix_trans past.seen.log seen all c.look-number.ensures.later now) in
     subst (λ l. HasCome w.key l e seen) (ap (λ p. p.since) c.self.view_is) (has_come w a e past.since.log seen all past.number at c.self.invariant.2 passed count since now c.learn.ensures.3)
+
+pub returns-clause-comes : goal.returns-clause-comes
+returns-clause-comes g c = λ e at.
+    let came = returns-clause-came g c e at in
+    (came.before, came.skipped, came.came)

@@ -1,7 +1,7 @@
 use Rattle.std.proofs.Common.{◌≡◌, Some, ap, sym, subst, ◌∙◌}
 use Rattle.lru_clock.specs.History.{entry}
 use Rattle.lru_clock.specs.Arrivals.{Arrives}
-use Rattle.lru_clock.proofs.store.slot.have_one_entry.Goals as goal
+use Rattle.lru_clock.proofs.store.slot.pins.have_one_entry.Goals as goal
 
 -- One arrival is of one entry.
 pub returns-in-Some-get : goal.returns-in-Some-get

@@ -1,0 +1,64 @@
+//! The strict limit of a shard: which new entries it refuses.
+ghost use Rattle.std.specs.Prelude.{◌≡◌, ◌≢◌, true, Some, IfErr, IfSome};
+ghost use Rattle.lru_clock.specs.Evictions.{refuses};
+ghost use Rattle.lru_clock.specs.SeatChanges.{AddsVacant};
+
+use crate::clock_core::Core;
+use crate::shard_state::ShardState;
+use crate::store::{Left, Looks};
+use concurrent_lru::fit::Fit;
+use concurrent_lru::sharded::Refusal;
+
+impl<K: Eq + Clone + Drop, V: Drop, F: Fit<K, V>> Core<K, V, F> {
+    /// Returns whether the limit is strict and has no room for a new entry of this charge, even
+    /// once every entry that nobody has pinned has left. Visits slots until enough of the entries
+    /// there are idle.
+    pub fn is_full_for(&self, state: &ShardState<K>, charge: u64) -> bool
+        ensures { result ≡ true
+            → refuses state.now.is_strict state.now.capacity state.now.seats charge ≡ true }
+    {
+        if !state.refuses(charge, state.is_strict) {
+            return false;
+        }
+        let total = state.seats.total().saturating_add(charge);
+        let excess = total.saturating_sub(state.capacity);
+        let mut idle = 0u64;
+        for place in 0..state.seats.places() {
+            if idle >= excess {
+                return false;
+            }
+            if let Some(slot) = self.store.slot(place) {
+                if !slot.is_pinned() {
+                    idle = idle.saturating_add(state.seats.charge_at(place));
+                }
+            }
+        }
+        idle < excess
+    }
+
+    /// Checks that a new entry of this charge can be stored once there is room for it: does what
+    /// `admit` does, with the same refusals, and also returns `Full` if the limit refuses the entry
+    /// in any case. No entry changes.
+    pub fn admit_within(&self, state: &mut ShardState<K>, charge: u64) -> Result<(), Refusal>
+        ensures never_stale { IfErr result (λ e. e ≢ Refusal.Stale) }
+        ensures seats { AddsVacant state.old.seats state.new.seats }
+        ensures makings { state.new.makings ≡ state.old.makings }
+    {
+        self.admit(state, charge)?;
+        if self.is_full_for(state, charge) {
+            return Err(Refusal::Full);
+        }
+        Ok(())
+    }
+
+    /// Evicts one entry if a new entry of this charge needs the room, but none for an entry that
+    /// the limit refuses in any case.
+    pub fn make_room_for(&self, state: &mut ShardState<K>, charge: u64) -> Option<Left<'_, K, V, F>>
+        ensures book { IfSome result (λ l. l ≡ Some self.now.store.chronicle.first.book) }
+    {
+        if self.is_full_for(state, charge) {
+            return None;
+        }
+        self.make_room(state, charge, &mut Looks::new())
+    }
+}

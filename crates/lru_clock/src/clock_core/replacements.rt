@@ -1,0 +1,254 @@
+//! Entries that are stored in place of the key's.
+//!
+//! The key's entry leaves last, so that a new entry that is refused leaves it as it was.
+ghost use Rattle.std.specs.Prelude.{◌≡◌, ◌≢◌, true, None, Some, IfErr, IfNone, IfOk, IfSome};
+ghost use Rattle.std.specs.Prelude.{MatchResult};
+ghost use Rattle.lru_clock.specs.SeatChanges.{AddsVacant, VacatesAny};
+
+use crate::clock_core::Core;
+use crate::shard_state::ShardState;
+use crate::store::{Kept, Left, Looks, Pin, Reservation};
+use concurrent_lru::fit::Fit;
+use concurrent_lru::sharded::Refusal;
+
+impl<K: Eq + Clone + Drop, V: Drop, F: Fit<K, V>> Core<K, V, F> {
+    /// Makes room for an entry that is to be stored in place of the key's: adds a place if none is
+    /// vacant, and evicts one entry if the charge would take the total above the capacity. The
+    /// charge of the key's entry counts as room, unless somebody has pinned it.
+    ///
+    /// Returns `Memory`, `Overflow` and `Full` as `admit_within` does, and `Full` also if the limit
+    /// is strict, there is too little room, and no entry can be evicted. No entry has changed then.
+    pub fn make_way(
+        &self,
+        state: &mut ShardState<K>,
+        tag: u32,
+        key: &K,
+        charge: u64,
+    ) -> Result<Option<Left<'_, K, V, F>>, Refusal>
+        ensures book { IfOk result (λ left. IfSome left
+            (λ l. l ≡ Some self.now.store.chronicle.first.book)) }
+        ensures never_stale { IfErr result (λ e. e ≢ Refusal.Stale) }
+        ensures seats { MatchResult result
+            (λ left. VacatesAny state.old.seats state.new.seats left)
+            (λ _. AddsVacant state.old.seats state.new.seats) }
+    {
+        self.admit_within(state, charge)?;
+        if !state.is_above(charge) {
+            return Ok(None);
+        }
+        let needed = charge.saturating_sub(self.idle_charge(state, tag, key));
+        match self.make_room(state, needed, &mut Looks::new()) {
+            Some(left) => Ok(Some(left)),
+            None if state.refuses(needed, state.is_strict) => Err(Refusal::Full),
+            None => Ok(None),
+        }
+    }
+
+    // Returns the charge of the key's entry, or 0 if it has none or somebody has pinned it.
+    fn idle_charge(&self, state: &mut ShardState<K>, tag: u32, key: &K) -> u64
+        ensures { state.new ≡ state.old }
+    {
+        match self.listed(state, tag, key) {
+            Some((place, slot)) => {
+                if slot.is_pinned() {
+                    0
+                } else {
+                    state.seats.charge_at(place)
+                }
+            }
+            None => 0,
+        }
+    }
+
+    /// Stores an entry in place of the key's, and pins it. `evicted` is an entry that has just
+    /// left, so that there is room and the key has no entry. Returns the entry that has left, if
+    /// one has.
+    ///
+    /// Returns `Memory`, `Overflow` and `Full` as `replace` does, with the entry that was refused.
+    pub fn store_over<'a>(
+        &'a self,
+        state: &mut ShardState<K>,
+        tag: u32,
+        key: &K,
+        charge: u64,
+        kept: Kept<K, V, F>,
+        key_copy: K,
+        evicted: Option<Left<'a, K, V, F>>,
+    ) -> (
+        Result<(u32, Pin<'a, K, V, F>), (Refusal, Left<'a, K, V, F>)>,
+        Option<Left<'a, K, V, F>>,
+    )
+        requires fits { F.fits kept.key kept.value }
+        requires asked { F.fits key.now kept.value }
+        requires equal { K.eq kept.key key.now ≡ true }
+        requires copy { K.eq key_copy kept.key ≡ true }
+        requires book { IfSome evicted (λ l. l ≡ Some self.now.store.chronicle.first.book) }
+        ensures pin { IfOk result.0
+            (λ found. (found.1.key ≡ key.now) × F.fits key.now found.1.value) }
+        ensures value { IfOk result.0 (λ found. found.1.value ≡ kept.value) }
+        ensures book { IfOk result.0
+            (λ found. found.1.book ≡ self.now.store.chronicle.first.book) }
+        ensures never_stale { IfErr result.0 (λ e. e.0 ≢ Refusal.Stale) }
+        ensures refused { IfErr result.0
+            (λ _. IfNone result.1 (AddsVacant state.old.seats state.new.seats)) }
+        ensures makings { state.new.makings ≡ state.old.makings }
+    {
+        match evicted {
+            Some(evicted) => {
+                let mut left = Some(evicted);
+                let copy = Some(key_copy);
+                let stored = self.put(state, tag, key, charge, kept, copy, &mut left);
+                (stored, left)
+            }
+            None => self.replace(state, tag, key, charge, kept, key_copy),
+        }
+    }
+
+    /// Stores an entry in place of the key's, and pins it. The key's entry leaves if nobody has
+    /// pinned it, and is invalidated otherwise. Returns the entry that has left, if one has.
+    ///
+    /// Returns `Memory` and `Overflow` as `admit` does, and `Full` if the limit is strict and has
+    /// no room for both entries, and somebody has pinned the key's; with the entry that was
+    /// refused. The key's entry has not changed then.
+    pub fn replace(
+        &self,
+        state: &mut ShardState<K>,
+        tag: u32,
+        key: &K,
+        charge: u64,
+        kept: Kept<K, V, F>,
+        key_copy: K,
+    ) -> (
+        Result<(u32, Pin<'_, K, V, F>), (Refusal, Left<'_, K, V, F>)>,
+        Option<Left<'_, K, V, F>>,
+    )
+        requires fits { F.fits kept.key kept.value }
+        requires asked { F.fits key.now kept.value }
+        requires equal { K.eq kept.key key.now ≡ true }
+        requires copy { K.eq key_copy kept.key ≡ true }
+        ensures pin { IfOk result.0
+            (λ found. (found.1.key ≡ key.now) × F.fits key.now found.1.value) }
+        ensures value { IfOk result.0 (λ found. found.1.value ≡ kept.value) }
+        ensures book { IfOk result.0
+            (λ found. found.1.book ≡ self.now.store.chronicle.first.book) }
+        ensures never_stale { IfErr result.0 (λ e. e.0 ≢ Refusal.Stale) }
+        ensures refused { IfErr result.0
+            (λ _. IfNone result.1 (AddsVacant state.old.seats state.new.seats)) }
+        ensures makings { state.new.makings ≡ state.old.makings }
+    {
+        let reservation = match self.reserve_seat(state, charge, tag, Some(key_copy)) {
+            Ok(reservation) => reservation,
+            Err((refusal, key_copy)) => {
+                return (Err((refusal, Left::refused(kept, key_copy))), None);
+            }
+        };
+        let old = match self.give_way(state, tag, key) {
+            Ok(old) => old,
+            Err(refusal) => {
+                let refused = Left::refused(kept, state.seats.cancel(reservation));
+                return (Err((refusal, refused)), None);
+            }
+        };
+        match self.fill_vacant(reservation, key, kept) {
+            Ok((place, pin)) => (
+                Ok((place, pin)),
+                self.settle_in(state, tag, key, place, old),
+            ),
+            // Never happens, as `fill` says. An entry that has given way stays away then.
+            Err((reservation, kept)) => {
+                let refused = Left::refused(kept, state.seats.cancel(reservation));
+                (Err((Refusal::Overflow, refused)), old)
+            }
+        }
+    }
+
+    // Takes out the key's entry if the limit is strict and the total, which counts the new entry as
+    // well, is above the capacity.
+    //
+    // Returns `Full` if somebody has pinned the key's entry, or it has none.
+    fn give_way(
+        &self,
+        state: &mut ShardState<K>,
+        tag: u32,
+        key: &K,
+    ) -> Result<Option<Left<'_, K, V, F>>, Refusal>
+        ensures seats { MatchResult result
+            (λ left. IfNone left (state.new.seats ≡ state.old.seats))
+            (λ e. (e ≡ Refusal.Full) × (state.new.seats ≡ state.old.seats)) }
+        ensures makings { state.new.makings ≡ state.old.makings }
+    {
+        if !state.refuses(0, state.is_strict) {
+            return Ok(None);
+        }
+        match self.take_idle_of(state, tag, key) {
+            Some(old) => Ok(Some(old)),
+            None => Err(Refusal::Full),
+        }
+    }
+
+    // Stores an entry in its reserved place, and pins it.
+    //
+    // Returns the reservation and the entry as `fill` does.
+    fn fill_vacant(
+        &self,
+        reservation: Reservation<K>,
+        key: &K,
+        kept: Kept<K, V, F>,
+    ) -> Result<(u32, Pin<'_, K, V, F>), (Reservation<K>, Kept<K, V, F>)>
+        requires fits { F.fits kept.key kept.value }
+        requires asked { F.fits key.now kept.value }
+        requires equal { K.eq kept.key key.now ≡ true }
+        requires copy { IfSome reservation.key.value (λ copy. K.eq copy kept.key ≡ true) }
+        ensures place { MatchResult result (λ filled. filled.0 ≡ reservation.place)
+            (λ back. back.0.place ≡ reservation.place) }
+        ensures pin { IfOk result
+            (λ filled. (filled.1.key ≡ key.now) × F.fits key.now filled.1.value) }
+        ensures value { IfOk result (λ filled. filled.1.value ≡ kept.value) }
+        ensures book { IfOk result
+            (λ filled. filled.1.book ≡ self.now.store.chronicle.first.book) }
+    {
+        let mut left = None;
+        let filled = self.store.fill(reservation, key, kept, false, &mut left);
+        // Never `Some`: no entry was about to leave.
+        if let Some(left) = left {
+            drop(left.into_parts());
+        }
+        filled
+    }
+
+    // The entry at a place, which was just stored, takes the place of the key's in the index and
+    // its own in the order. Unless the key's entry has already left, it does now if nobody has
+    // pinned it, and is invalidated otherwise. Returns the entry that has left, if one has.
+    fn settle_in<'a>(
+        &'a self,
+        state: &mut ShardState<K>,
+        tag: u32,
+        key: &K,
+        place: u32,
+        old: Option<Left<'a, K, V, F>>,
+    ) -> Option<Left<'a, K, V, F>>
+        ensures makings { state.new.makings ≡ state.old.makings }
+    {
+        let left = match old {
+            Some(old) => Some(old),
+            None => self.invalidate_entry(state, tag, key),
+        };
+        self.list(state, place);
+        state.come(place);
+        left
+    }
+
+    /// Evicts the key's entry, whatever its chances, if nobody has pinned it.
+    pub fn take_idle_of(
+        &self,
+        state: &mut ShardState<K>,
+        tag: u32,
+        key: &K,
+    ) -> Option<Left<'_, K, V, F>>
+        ensures seats { IfNone result (state.new ≡ state.old) }
+        ensures makings { state.new.makings ≡ state.old.makings }
+    {
+        let place = state.seats.find(tag, key)?;
+        self.take_idle(state, place)
+    }
+}
