@@ -72,31 +72,3 @@ fn a_clone_past_the_maximum_number_of_pins_is_refused(rt: HostRuntime) {
     let told = clones_at_the_maximum_in_new(rt.alloc(), &rt);
     assert_equal(&rt, told, Some([Err(Refusal::Overflow), Ok(11)]));
 }
-
-// Inserts key 1, clones its handle, and perhaps finds the key too. Then inserts as many other keys
-// as the cache has room for. Returns whether key 1 is still there.
-fn stays<R: Wait>(cache: &Clock<u64, R>, is_found: bool) -> Option<bool> {
-    let first = cache.insert(&1, 1, 5).ok()?;
-    drop(first.try_clone().ok()?);
-    drop(first);
-    if is_found {
-        drop(cache.find(&1));
-    }
-    for key in 2..10u64 {
-        drop(cache.insert(&key, 1, 5));
-    }
-    Some(cache.contains(&1))
-}
-
-// Does this in a new cache.
-fn stays_in_new<R: Wait + Drop>(alloc: Global, rt: R, is_found: bool) -> Option<bool> {
-    let cache: Clock<u64, R> = clock_with_shards(alloc, rt, 8, 1)?;
-    stays(&cache, is_found)
-}
-
-// The entry that came first leaves first, unless it was used.
-#[test]
-fn a_clone_is_no_use_of_the_entry(rt: HostRuntime) {
-    assert_equal(&rt, stays_in_new(rt.alloc(), &rt, false), Some(false));
-    assert_equal(&rt, stays_in_new(rt.alloc(), &rt, true), Some(true));
-}

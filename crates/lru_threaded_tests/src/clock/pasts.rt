@@ -30,6 +30,7 @@ fn a_caller_finds_nothing_from_before_its_invalidate(rt: HostRuntime) {
     let cache = numbers(&rt, rt.alloc(), 10).expect(&rt, "memory");
     replaces_a_value(&rt, &cache);
     keeps_a_past(&rt, &cache);
+    learns_of_a_handle(&rt, &cache);
 }
 
 fn replaces_a_value<R: Wait>(rt: &impl Abort, cache: &Numbers<R>) {
@@ -53,6 +54,17 @@ fn keeps_a_past<R: Wait>(rt: &impl Abort, cache: &Numbers<R>) {
     drop(cache.insert(&2, 1, 21));
     assert_eq!(rt; value_of(cache.find_since(&2, &mut past)), Some(21));
     assert_eq!(rt; value_of(cache.find_since(&2, &mut copy)), Some(21));
+}
+
+// A past that has learned of a handle does not find its entry again, whatever call returned it.
+fn learns_of_a_handle<R: Wait>(rt: &impl Abort, cache: &Numbers<R>) {
+    let mut past = cache.past(&3);
+    let handle = cache.get_or_init(3, 1, |_| 30).expect(rt, "memory");
+    past.learn(&handle);
+    assert_eq!(rt; value_of(cache.find_since(&3, &mut past)), Some(30));
+    cache.invalidate_since(&3, &mut past);
+    assert_eq!(rt; value_of(cache.find_since(&3, &mut past)), None);
+    assert_eq!(rt; (*handle, cache.contains(&3)), (30, false));
 }
 
 // Gives the source of a key's value the next number, and returns whether the cache then has no

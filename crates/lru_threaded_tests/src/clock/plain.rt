@@ -7,7 +7,7 @@
 use crate::seeded::player::SLOTS;
 use crate::seeded::said::Said;
 use crate::threaded::{Then, ThreadedCall};
-use lru_clock::clock::Counts;
+use lru_clock::clock::{Counts, Refusal};
 use lru_support::tables::{Answers, text_of};
 use std::alloc::{AllocError, Global};
 use std::hash::BuildHasher;
@@ -38,6 +38,7 @@ struct Ghost {
 pub(crate) struct Plain<S: BuildHasher> {
     hasher: S,
     capacity: u64,
+    is_strict: bool,
     places: Vec<Option<Entry>>,
     vacant: Vec<usize>,
     hand: usize,
@@ -60,6 +61,7 @@ impl<S: BuildHasher + Drop> Plain<S> {
         Plain {
             hasher,
             capacity,
+            is_strict: false,
             places: Vec::new(alloc),
             vacant: Vec::new(alloc),
             hand: 0,
@@ -123,6 +125,17 @@ impl<S: BuildHasher + Drop> Plain<S> {
 
     fn is_above(&self, charge: u64) -> bool {
         self.total().wrapping_add(charge) > self.capacity
+    }
+
+    // Returns whether the limit is strict and has no room for a charge beside the pinned entries.
+    fn is_full_for(&self, charge: u64) -> bool {
+        self.is_strict && self.pinned().wrapping_add(charge) > self.capacity
+    }
+
+    // A value is refused, and dropped.
+    fn refuse(&mut self, number: u64) -> Result<Said, AllocError> {
+        self.dropped.push(number)?;
+        Ok(Said::Refused(Refusal::Full))
     }
 
     // Returns the tag of a key, and where its ghost may be.
@@ -274,6 +287,21 @@ impl<S: BuildHasher + Drop> Plain<S> {
         Ok(())
     }
 
+    // Makes room for an entry that is to replace the key's, whose charge counts as room if nobody
+    // has pinned it.
+    fn make_way(&mut self, key: u64, charge: u64) -> Result<(), AllocError> {
+        for _ in 0..1_000u32 {
+            let given_back = match self.find(key) {
+                Some((_, entry)) if entry.pins == 0 => entry.charge,
+                _ => 0,
+            };
+            if !self.is_above(charge.saturating_sub(given_back)) || !self.evict()? {
+                break;
+            }
+        }
+        Ok(())
+    }
+
     // Makes room once more if the total is above the capacity now and was not before the call. Then
     // all entries are pinned, so those on trial pass it.
     fn settle(&mut self, was_above: bool) -> Result<(), AllocError> {
@@ -388,6 +416,9 @@ impl<S: BuildHasher + Drop> Plain<S> {
             self.keep(place, then)?;
             return Ok(Said::Found(found));
         }
+        if self.is_full_for(charge) {
+            return self.refuse(number);
+        }
         let was_above = self.is_above(0);
         self.make_room(charge)?;
         let place = self.store(key, charge, number)?;
@@ -398,8 +429,9 @@ impl<S: BuildHasher + Drop> Plain<S> {
     }
 
     // Finds a key's entry, or fails: room is made only for a value that there is.
-    fn fail(&mut self, key: u64, then: Then) -> Result<Said, AllocError> {
+    fn fail(&mut self, key: u64, charge: u64, then: Then) -> Result<Said, AllocError> {
         match self.get(key, then)? {
+            Said::Absent if self.is_full_for(charge) => Ok(Said::Refused(Refusal::Full)),
             Said::Absent => {
                 self.counts.failures = self.counts.failures.wrapping_add(1);
                 Ok(Said::Failed(key))
@@ -418,9 +450,15 @@ impl<S: BuildHasher + Drop> Plain<S> {
     ) -> Result<Said, AllocError> {
         let was_above = self.is_above(0);
         self.add_vacant_place()?;
-        self.invalidate(key)?;
-        self.make_room(charge)?;
+        if self.is_full_for(charge) {
+            return self.refuse(number);
+        }
+        self.make_way(key, charge)?;
+        let old = self.find(key);
         let place = self.store(key, charge, number)?;
+        if let Some((place, entry)) = old {
+            self.detach(place, entry)?;
+        }
         self.settle(was_above)?;
         self.counts.insertions = self.counts.insertions.wrapping_add(1);
         self.keep(place, then)?;
@@ -453,9 +491,14 @@ impl<S: BuildHasher + Drop> Plain<S> {
     }
 
     fn invalidate(&mut self, key: u64) -> Result<(), AllocError> {
-        let Some((place, entry)) = self.find(key) else {
-            return Ok(());
-        };
+        match self.find(key) {
+            Some((place, entry)) => self.detach(place, entry),
+            None => Ok(()),
+        }
+    }
+
+    // A key loses its entry, which leaves if nobody has pinned it.
+    fn detach(&mut self, place: usize, entry: Entry) -> Result<(), AllocError> {
         if entry.pins == 0 {
             return self.leave(place, entry);
         }
@@ -521,7 +564,7 @@ impl<S: BuildHasher + Drop> Plain<S> {
             | ThreadedCall::TryInit(key, charge, number, then) => {
                 self.make(key, charge, number, then)
             }
-            ThreadedCall::Fail(key, _, then) => self.fail(key, then),
+            ThreadedCall::Fail(key, charge, then) => self.fail(key, charge, then),
             ThreadedCall::Insert(key, charge, number, then) => {
                 self.insert(key, charge, number, then)
             }
@@ -532,7 +575,7 @@ impl<S: BuildHasher + Drop> Plain<S> {
         }
     }
 
-    // Makes a call that returns no value. The clock has no strict limit.
+    // Makes a call that returns no value.
     fn change(&mut self, call: ThreadedCall) -> Result<(), AllocError> {
         match call {
             ThreadedCall::LetGo(slot) => self.let_go(slot),
@@ -540,6 +583,10 @@ impl<S: BuildHasher + Drop> Plain<S> {
             ThreadedCall::Invalidate(key) => self.invalidate(key),
             ThreadedCall::Prune => self.prune(),
             ThreadedCall::Reserve(places) => self.reserve(places),
+            ThreadedCall::SetStrict(is_strict) => {
+                self.is_strict = is_strict;
+                Ok(())
+            }
             ThreadedCall::SetCapacity(capacity) => {
                 let was_above = self.is_above(0);
                 self.capacity = capacity;
@@ -557,10 +604,11 @@ impl<S: BuildHasher + Drop> Answers<ThreadedCall> for Plain<S> {
     fn answer(&mut self, alloc: Global, call: ThreadedCall) -> Result<String, AllocError> {
         if let ThreadedCall::View = call {
             let (capacity, total, len) = (self.capacity, self.total(), self.len());
+            let is_strict = self.is_strict;
             let (is_empty, pinned, counts) = (len == 0, self.pinned(), self.counts);
             return format!(in alloc;
                 "Cache {{ capacity: {capacity}, total_charge: {total}, len: {len} }}, \
-                empty {is_empty}, pinned {pinned}, {counts:?}"
+                empty {is_empty}, strict {is_strict}, pinned {pinned}, {counts:?}"
             );
         }
         if let ThreadedCall::ResetCounts = call {

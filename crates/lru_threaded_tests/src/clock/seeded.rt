@@ -18,15 +18,19 @@ use std::test::Fail;
 impl<'a, R: Wait + Drop, S: BuildHasher> Viewed<Logged<R>> for &'a Cache<u64, Logged<R>, R, S> {
     fn view(self, alloc: Global) -> Result<String, AllocError> {
         let (is_empty, pinned, counts) = (self.is_empty(), self.pinned_charge(), self.counts());
-        format!(in alloc; "{self:?}, empty {is_empty}, pinned {pinned}, {counts:?}")
+        let is_strict = self.is_limit_strict();
+        format!(in alloc;
+            "{self:?}, empty {is_empty}, strict {is_strict}, pinned {pinned}, {counts:?}"
+        )
     }
 
     fn reset(self, alloc: Global) -> Result<String, AllocError> {
         text_of(alloc, &self.reset_counts())
     }
 
-    // The clock has no strict limit.
-    fn set_strict(self, _is_strict: bool) {}
+    fn set_strict(self, is_strict: bool) {
+        self.set_strict_limit(is_strict);
+    }
 }
 
 // Makes a seed's calls on a cache of one shard, whose hasher is given twice.
