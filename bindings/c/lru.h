@@ -790,10 +790,10 @@ lru_code lru_clock_set_capacity(lru_clock *clock, uint64_t capacity);
 /* Makes room in memory for as many entries, so that `add` and `ready` allocate nothing
  * while there are fewer. Never gives memory back.
  *
- * Allocates about 120 bytes for each entry, page by page, and takes all the memory that it gets
- * before it refuses a number that is too large. LRU_DONE; LRU_MEMORY; LRU_OVERFLOW if the clock
- * cannot have as many entries, about 2^32; LRU_CLOSED. No entry changes in any case; room that was
- * made before a refusal stays. */
+ * Allocates about 120 bytes for each entry, page by page. LRU_DONE; LRU_OVERFLOW, at once, if
+ * the clock cannot have as many entries, that is, more than 4,294,966,784; LRU_MEMORY if there is
+ * no memory for all of them, and then the room that was made stays; LRU_CLOSED. No entry changes
+ * in any case. */
 lru_code lru_clock_reserve(lru_clock *clock, size_t entries);
 
 /* What has happened in the clock, and what it holds.

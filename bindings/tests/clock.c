@@ -183,6 +183,7 @@ static void test_limits(void) {
     CHECK(lru_clock_reserve(&clock, 100), LRU_DONE);
     CHECK(lru_clock_places(&clock).value, 100);
     CHECK(lru_clock_reserve(&clock, 1), LRU_DONE);
+    CHECK(lru_clock_reserve(&clock, SIZE_MAX), LRU_OVERFLOW);
     CHECK(lru_clock_places(&clock).value, 100);
     CHECK(lru_clock_len(&clock).value, 0);
 
