@@ -1,15 +1,17 @@
--- The view of a `Table`: its idle and held entries, and the stamp of the entry at each place. What
--- each of its calls changes.
+-- The view of a `Table`: its idle and held entries, and the stamp of the entry at each place, with
+-- the address of its node. What each of its calls changes.
 use Rattle.std.specs.Prelude.{◌≡◌, ◌≢◌, ℕ, ◌+◌, ◌++◌, ◌∷◌, [], Bool, true, false, List, Option, IsSome, Some, refl}
 use Rattle.std.specs.Option.{option_map_or}
 use Rattle.std.specs.Ordering.{nat_cmp}
 use Rattle.std.specs.Coded.{Coded, code_by, coded×, coded_ℕ, coded_list}
 use Rattle.std.specs.FinMap as finmap
+use denote.RawPtr.{Ptr, coded_ptr}
 use Rattle.concurrent_lru.specs.Cache.{Cache, Idle, Held, IsEntry, IsFound, idle_at, held_at, idle_code, held_code, charges, making, ready}
 use Rattle.concurrent_lru.specs.Steps.{without, held_by_one, held_detached, idle_again}
 use Rattle.concurrent_lru.specs.NodeTable.{Entry, entry_of, chain_of}
 use Rattle.concurrent_lru.specs.Representation.{as_idle, held_entry, held_charges}
 use Rattle.concurrent_lru.specs.declared.node_table.Node.{Node}
+use Rattle.concurrent_lru.specs.declared.node_table.memory.At.{At}
 
 -- the idle entries are oldest first; an entry keeps its place until it is taken out; work is the
 -- number of writes to the idle order
@@ -17,13 +19,14 @@ pub record Entries (K V : Type 0) : Type 0 where
   pub idle : List (Idle K V)
   pub held : finmap.FinMap nat_cmp (Held K V)
   pub stamps : finmap.FinMap nat_cmp ℕ
+  pub links : finmap.FinMap nat_cmp Ptr
   pub work : ℕ
 
 module _ {K V : Type 0} where
   abbrev pub entries_code : Coded K → Coded V → Coded (Entries K V)
   entries_code k v =
-      code_by (List (Idle K V) × (finmap.FinMap nat_cmp (Held K V) × (finmap.FinMap nat_cmp ℕ × ℕ))) (coded× (coded_list (idle_code k v)) (coded× (finmap.code coded_ℕ (held_code k v)) (coded× (finmap.code coded_ℕ coded_ℕ) coded_ℕ)))
-      (λ t. (t.idle, (t.held, (t.stamps, t.work)))) (λ p. record { idle = p.0; held = p.1.0; stamps = p.1.1.0; work = p.1.1.1 }) (λ _. refl)
+      code_by (List (Idle K V) × (finmap.FinMap nat_cmp (Held K V) × (finmap.FinMap nat_cmp ℕ × (finmap.FinMap nat_cmp Ptr × ℕ)))) (coded× (coded_list (idle_code k v)) (coded× (finmap.code coded_ℕ (held_code k v)) (coded× (finmap.code coded_ℕ coded_ℕ) (coded× (finmap.code coded_ℕ coded_ptr) coded_ℕ))))
+      (λ t. (t.idle, (t.held, (t.stamps, (t.links, t.work))))) (λ p. record { idle = p.0; held = p.1.0; stamps = p.1.1.0; links = p.1.1.1.0; work = p.1.1.1.1 }) (λ _. refl)
 
   -- the cache of these entries with these numbers; with zeros, where the numbers do not matter
   abbrev pub cache_with : ℕ → ℕ → ℕ → Entries K V → Cache K V
@@ -89,6 +92,10 @@ module _ {K V : Type 0} where
     pub entry : GetsAt t p (entry_of n)
     pub pins : pins_at t p ≡ (entry_of n).pins
     pub alone : chain_of n ≡ []
+
+  -- the node of the entry at the place has this address
+  abbrev pub LeadsAt : Entries K V → At (Node K V) → ℕ → Type 0
+  LeadsAt t at p = finmap.get t.links p ≡ Some at.ptr
 
   -- a new held entry: it has one pin, and its value is being made
   abbrev pub new_held : K → ℕ → Held K V

@@ -27,7 +27,7 @@ module _ {K V : Type 0} where
   stamps_of nodes = finmap.from_entries (map (λ e. (e.0, e.1.stamp)) (finmap.entries nodes))
 
   abbrev pub entries_of : NodeTable K V → Entries K V
-  entries_of nodes = record { idle = idle_in nodes; held = held_in nodes (finmap.keys nodes.nodes); stamps = stamps_of nodes.nodes; work = nodes.work }
+  entries_of nodes = record { idle = idle_in nodes; held = held_in nodes (finmap.keys nodes.nodes); stamps = stamps_of nodes.nodes; links = nodes.links; work = nodes.work }
 
   -- the nodes represent entries, their hashes and the map of stamps agree with them, and copies of
   -- keys equal the keys

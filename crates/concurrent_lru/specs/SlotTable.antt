@@ -6,7 +6,7 @@ use Rattle.std.specs.Ordering.{nat_cmp}
 use denote.RawPtr.{Ptr}
 use Rattle.concurrent_lru.specs.Order.{Link, link, IsOrder, order}
 use Rattle.concurrent_lru.specs.Slots.{map_of_slots}
-use Rattle.concurrent_lru.specs.Cells.{cell_at, slot_at, AtSlot, OfSlot}
+use Rattle.concurrent_lru.specs.Cells.{cell_at, slot_at, ptr_in, AtSlot, OfSlot}
 use Rattle.concurrent_lru.specs.NodeTable.{NodeTable, Entry, entry_of, chain_of}
 use Rattle.concurrent_lru.specs.Relinks.{NodeCell, NodeCells, LeftJoined, RightJoined, before_link, after_link, slot_in, before_at, after_at}
 use Rattle.concurrent_lru.specs.SlotPointers.{IsTied, cells_of}
@@ -61,8 +61,12 @@ module _ {K V : Type 0} where
   abbrev pub hashes_of : Order K V → FinMap nat_cmp ℕ
   hashes_of o = map_of_slots (map hash_in (cells_of o.slots))
 
+  -- the addresses by slot
+  abbrev pub links_of : Order K V → FinMap nat_cmp Ptr
+  links_of o = map_of_slots (map ptr_in (cells_of o.slots))
+
   abbrev pub node_table_of : Order K V → ℕ → NodeTable K V
-  node_table_of o work = record { nodes = nodes_of o; hashes = hashes_of o; idle = idle_of o; spare = spare_of o.slots; work = work; looks = o.slots.looks.count }
+  node_table_of o work = record { nodes = nodes_of o; hashes = hashes_of o; links = links_of o; idle = idle_of o; spare = spare_of o.slots; work = work; looks = o.slots.looks.count }
 
   -- the links of the idle nodes lead from the oldest to the newest, and no node has a chain
   pub record IsWellLinked (o : Order K V) : Type 0 where

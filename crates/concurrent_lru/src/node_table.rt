@@ -5,7 +5,7 @@
 ghost use Rattle.std.specs.Prelude.{◌≡◌, ◌≢◌, ℕ, ◌+◌, ◌<◌, ◌≤◌, ◌^◌, ◌==◌, Some, None, [], ◌∷◌, ◌++◌, filter, not, OnOk, IfErr, IfSome, IsTrue, IsFalse, MatchOption, slice_get, nat_eq};
 ghost use Rattle.std.specs.List.{IsDistinct};
 ghost use Rattle.std.specs.FinMap as map;
-ghost use Rattle.concurrent_lru.specs.NodeTable.{entry_of, hash_of, chain_of, update_at, entry_with_pins, entry_detached, entry_with_phase, new_entry, HasCharge, ContainsNode, ContainsIdle, LacksIdle, GetsNode, HasStampAt, IsNewStamp, FindsStamp, HasKey, IsNewKey};
+ghost use Rattle.concurrent_lru.specs.NodeTable.{entry_of, hash_of, chain_of, update_at, entry_with_pins, entry_detached, entry_with_phase, new_entry, HasCharge, ContainsNode, ContainsIdle, LacksIdle, GetsNode, LeadsTo, HasStampAt, IsNewStamp, FindsStamp, HasKey, IsNewKey};
 
 mod fields;
 mod links;
@@ -15,7 +15,7 @@ mod probes;
 mod slots;
 
 use crate::node_table::links::Order;
-pub(crate) use crate::node_table::probes::Cursor;
+pub(crate) use crate::node_table::memory::At;
 use crate::node_table::probes::Step;
 pub use crate::refusal::Refusal;
 use crate::work::Work;
@@ -138,17 +138,18 @@ impl Model for Place {
 #[derive(Drop)]
 pub(crate) struct Found<'a, K, V> {
     pub place: Place,
-    // The cursor with which the next calls find the node again.
-    pub near: Cursor,
+    // Leads to the node, for the calls that follow at once. A node keeps its address until it is
+    // taken.
+    pub link: At<Node<K, V>>,
     pub node: &'a Node<K, V>,
 }
 
 /// Nodes by place, and the places of the idle ones, oldest first.
 ///
-/// Clauses see a map from places to entries, the list of idle places, the number of inserts that
-/// need no memory (`spare`), how often the order was written (`work`), and how often a node was
-/// looked up in the slab to be written or taken (`looks`). An append or a removal looks up at most
-/// one node.
+/// Clauses see a map from places to entries, the hashes and the addresses of the nodes (`links`),
+/// the list of idle places, the number of inserts that need no memory (`spare`), how often the
+/// order was written (`work`), and how often a node was looked up by its place to be written or
+/// taken (`looks`). An append or a removal looks up at most one node.
 pub struct Nodes<K, V> {
     order: Order<K, V>,
     work: Work,
@@ -205,6 +206,7 @@ impl<K: Drop, V: Drop> Nodes<K, V> {
     pub fn new(alloc: Global) -> Nodes<K, V>
         ensures nodes { result.nodes ≡ map.empty }
         ensures hashes { result.hashes ≡ map.empty }
+        ensures links { result.links ≡ map.empty }
         ensures idle { result.idle ≡ [] }
         ensures work { result.work ≡ 0 }
     {
@@ -219,6 +221,7 @@ impl<K: Drop, V: Drop> Nodes<K, V> {
         ensures err { IfErr result (λ e. e ≡ Refusal.Memory) }
         ensures nodes { self.new.nodes ≡ self.old.nodes }
         ensures hashes { self.new.hashes ≡ self.old.hashes }
+        ensures links { self.new.links ≡ self.old.links }
         ensures idle { self.new.idle ≡ self.old.idle }
         ensures work { self.new.work ≡ self.old.work }
     {
@@ -281,6 +284,7 @@ impl<K: Drop, V: Drop> Nodes<K, V> {
         ensures found { MatchOption result (IsNewKey K.eq self.now hash key.now)
             (λ found. HasKey K.eq found.node.now key.now) }
         ensures node { IfSome result (λ found. GetsNode self.now found.place found.node.now) }
+        ensures link { IfSome result (λ found. LeadsTo self.now found.link found.place) }
     {
         let slots = &self.order.slots;
         let mut at = slots.by_hash.first(hash);
@@ -289,7 +293,7 @@ impl<K: Drop, V: Drop> Nodes<K, V> {
             if node.key == *key {
                 return Some(Found {
                     place: Place { slot: node.slot },
-                    near: cursor,
+                    link: slots.by_hash.item(cursor),
                     node,
                 });
             }
@@ -303,6 +307,7 @@ impl<K: Drop, V: Drop> Nodes<K, V> {
     pub(crate) fn find_stamp_by_hash(&self, hash: u64, stamp: u64) -> Option<Found<'_, K, V>>
         ensures found { IfSome result (λ found. (entry_of found.node.now).stamp ≡ stamp) }
         ensures node { IfSome result (λ found. GetsNode self.now found.place found.node.now) }
+        ensures link { IfSome result (λ found. LeadsTo self.now found.link found.place) }
     {
         let slots = &self.order.slots;
         let mut at = slots.by_hash.first(hash);
@@ -311,7 +316,7 @@ impl<K: Drop, V: Drop> Nodes<K, V> {
             if node.stamp == stamp {
                 return Some(Found {
                     place: Place { slot: node.slot },
-                    near: cursor,
+                    link: slots.by_hash.item(cursor),
                     node,
                 });
             }
@@ -320,15 +325,16 @@ impl<K: Drop, V: Drop> Nodes<K, V> {
         None
     }
 
-    // Returns the node at a place as a lookup does, with a cursor that leads nowhere.
+    // Returns the node at a place as a lookup does.
     pub(crate) fn found(&self, place: Place) -> Found<'_, K, V>
         requires { ContainsNode self.now place }
         ensures place { result.place ≡ place }
         ensures node { GetsNode self.now result.place result.node.now }
+        ensures link { LeadsTo self.now result.link result.place }
     {
         Found {
             place,
-            near: Cursor::nowhere(),
+            link: self.order.slots.link(place.slot),
             node: self.node(place),
         }
     }
@@ -361,27 +367,29 @@ impl<K: Drop, V: Drop> Nodes<K, V> {
         requires { ContainsNode self.old place }
         ensures nodes { self.new.nodes ≡ update_at (entry_with_pins pins) self.old.nodes place }
         ensures hashes { self.new.hashes ≡ self.old.hashes }
+        ensures links { self.new.links ≡ self.old.links }
         ensures idle { self.new.idle ≡ self.old.idle }
         ensures spare { self.old.spare ≤ self.new.spare }
         ensures work { self.new.work ≡ self.old.work }
     {
-        self.set_pins_near(place, Cursor::nowhere(), pins);
+        let link = self.found(place).link;
+        self.write_pins(place, link, pins);
     }
 
-    // A call named `.._near` does what the call without that suffix does. Its lookup begins at the
-    // cursor, as in every call that takes one. Any cursor will do; one that leads to the node saves
-    // a read of the slab.
-
-    pub(crate) fn set_pins_near(&mut self, place: Place, near: Cursor, pins: u32)
-        requires { ContainsNode self.old place }
+    // Sets the number of pins of the node that a lookup found. Takes no memory.
+    pub(crate) fn write_pins(&mut self, place: Place, link: At<Node<K, V>>, pins: u32)
+        requires within { ContainsNode self.old place }
+        requires link { LeadsTo self.old link place }
         ensures nodes { self.new.nodes ≡ update_at (entry_with_pins pins) self.old.nodes place }
         ensures hashes { self.new.hashes ≡ self.old.hashes }
+        ensures links { self.new.links ≡ self.old.links }
         ensures idle { self.new.idle ≡ self.old.idle }
         ensures spare { self.old.spare ≤ self.new.spare }
         ensures work { self.new.work ≡ self.old.work }
     {
-        let pointer = self.order.slots.look_near(place.slot, near);
-        self.order.slots.follow_mut(pointer).set_pins(pins);
+        // Only the contract uses it.
+        let _ = place;
+        self.order.slots.follow_mut(link.ptr).set_pins(pins);
     }
 
     /// Marks a node as detached from its key. Takes no memory.
@@ -389,6 +397,7 @@ impl<K: Drop, V: Drop> Nodes<K, V> {
         requires { ContainsNode self.old place }
         ensures nodes { self.new.nodes ≡ update_at entry_detached self.old.nodes place }
         ensures hashes { self.new.hashes ≡ self.old.hashes }
+        ensures links { self.new.links ≡ self.old.links }
         ensures idle { self.new.idle ≡ self.old.idle }
         ensures spare { self.old.spare ≤ self.new.spare }
         ensures work { self.new.work ≡ self.old.work }
@@ -403,23 +412,29 @@ impl<K: Drop, V: Drop> Nodes<K, V> {
         requires { ContainsNode self.old place }
         ensures nodes { self.new.nodes ≡ update_at (entry_with_phase phase) self.old.nodes place }
         ensures hashes { self.new.hashes ≡ self.old.hashes }
+        ensures links { self.new.links ≡ self.old.links }
         ensures idle { self.new.idle ≡ self.old.idle }
         ensures spare { self.old.spare ≤ self.new.spare }
         ensures work { self.new.work ≡ self.old.work }
     {
-        self.set_phase_near(place, Cursor::nowhere(), phase);
+        let link = self.found(place).link;
+        self.write_phase(place, link, phase);
     }
 
-    pub(crate) fn set_phase_near(&mut self, place: Place, near: Cursor, phase: Phase<V>)
-        requires { ContainsNode self.old place }
+    // Sets the phase of the node that a lookup found. Takes no memory.
+    pub(crate) fn write_phase(&mut self, place: Place, link: At<Node<K, V>>, phase: Phase<V>)
+        requires within { ContainsNode self.old place }
+        requires link { LeadsTo self.old link place }
         ensures nodes { self.new.nodes ≡ update_at (entry_with_phase phase) self.old.nodes place }
         ensures hashes { self.new.hashes ≡ self.old.hashes }
+        ensures links { self.new.links ≡ self.old.links }
         ensures idle { self.new.idle ≡ self.old.idle }
         ensures spare { self.old.spare ≤ self.new.spare }
         ensures work { self.new.work ≡ self.old.work }
     {
-        let pointer = self.order.slots.look_near(place.slot, near);
-        self.order.slots.follow_mut(pointer).set_phase(phase);
+        // Only the contract uses it.
+        let _ = place;
+        self.order.slots.follow_mut(link.ptr).set_phase(phase);
     }
 
     /// Makes a node the newest idle one. Takes no memory.
@@ -428,6 +443,7 @@ impl<K: Drop, V: Drop> Nodes<K, V> {
         requires held { LacksIdle self.old place }
         ensures nodes { self.new.nodes ≡ self.old.nodes }
         ensures hashes { self.new.hashes ≡ self.old.hashes }
+        ensures links { self.new.links ≡ self.old.links }
         ensures idle { self.new.idle ≡ self.old.idle ++ place ∷ [] }
         ensures spare { self.old.spare ≤ self.new.spare }
         ensures work { self.new.work ≡ self.old.work + 1 }
@@ -438,11 +454,12 @@ impl<K: Drop, V: Drop> Nodes<K, V> {
         self.work.tick();
     }
 
-    // Adds a pin to a node, which has `pins` pins. An idle one leaves the idle order. Returns its
-    // charge. Takes no memory.
+    // Adds a pin to the node that a lookup found, which has `pins` pins. An idle one leaves the
+    // idle order. Returns its charge. Takes no memory.
     #[inline(always)]
-    pub(crate) fn pin(&mut self, place: Place, near: Cursor, pins: u32) -> u64
+    pub(crate) fn pin(&mut self, place: Place, link: At<Node<K, V>>, pins: u32) -> u64
         requires within { ContainsNode self.old place }
+        requires link { LeadsTo self.old link place }
         requires idle { pins ≡ 0 → ContainsIdle self.old place }
         requires room { pins + 1 < 2 ^ 32 }
         ensures charge { HasCharge (map.get self.old.nodes place) result }
@@ -454,40 +471,44 @@ impl<K: Drop, V: Drop> Nodes<K, V> {
         ensures held { pins ≢ 0 → (self.new.idle ≡ self.old.idle)
             × (self.new.work ≡ self.old.work) }
         ensures hashes { self.new.hashes ≡ self.old.hashes }
+        ensures links { self.new.links ≡ self.old.links }
         ensures spare { self.old.spare ≤ self.new.spare }
-        ensures looks { self.new.looks ≤ self.old.looks + 1 }
+        ensures looks { self.new.looks ≡ self.old.looks }
     {
-        let pointer = self.order.slots.look_near(place.slot, near);
-        let node = self.order.slots.follow_mut(pointer);
+        // Only the contract uses it.
+        let _ = place;
+        let node = self.order.slots.follow_mut(link.ptr);
         let charge = node.charge;
         node.set_pins(pins + 1);
         if pins > 0 {
             return charge;
         }
-        self.order.cut(pointer);
+        self.order.cut(link.ptr);
         self.work.tick();
         charge
     }
 
-    // Removes the pins of a node and makes it the newest idle one. Returns its charge. Takes no
-    // memory.
+    // Removes the pins of the node that a lookup found and makes it the newest idle one. Returns
+    // its charge. Takes no memory.
     #[inline(always)]
-    pub(crate) fn make_idle(&mut self, place: Place, near: Cursor) -> u64
+    pub(crate) fn make_idle(&mut self, place: Place, link: At<Node<K, V>>) -> u64
         requires within { ContainsNode self.old place }
+        requires link { LeadsTo self.old link place }
         requires held { LacksIdle self.old place }
         ensures nodes { self.new.nodes ≡ update_at (entry_with_pins 0) self.old.nodes place }
         ensures hashes { self.new.hashes ≡ self.old.hashes }
+        ensures links { self.new.links ≡ self.old.links }
         ensures idle { self.new.idle ≡ self.old.idle ++ place ∷ [] }
         ensures charge { HasCharge (map.get self.old.nodes place) result }
         ensures spare { self.old.spare ≤ self.new.spare }
         ensures work { self.new.work ≡ self.old.work + 1 }
-        ensures looks { self.new.looks ≤ self.old.looks + 1 }
+        ensures looks { self.new.looks ≡ self.old.looks }
     {
-        let pointer = self.order.slots.look_near(place.slot, near);
-        let node = self.order.slots.follow_mut(pointer);
+        let slot = place.slot;
+        let node = self.order.slots.follow_mut(link.ptr);
         let charge = node.charge;
         node.set_pins(0);
-        self.order.push(pointer, place.slot);
+        self.order.push(link.ptr, slot);
         self.work.tick();
         charge
     }
@@ -497,6 +518,7 @@ impl<K: Drop, V: Drop> Nodes<K, V> {
         requires { ContainsIdle self.old place }
         ensures nodes { self.new.nodes ≡ self.old.nodes }
         ensures hashes { self.new.hashes ≡ self.old.hashes }
+        ensures links { self.new.links ≡ self.old.links }
         ensures idle { self.new.idle ≡ filter (λ p. not (p == place)) self.old.idle }
         ensures spare { self.old.spare ≤ self.new.spare }
         ensures work { self.new.work ≡ self.old.work + 1 }
@@ -507,19 +529,21 @@ impl<K: Drop, V: Drop> Nodes<K, V> {
         self.work.tick();
     }
 
-    // Makes an idle node the newest idle one. Takes no memory.
-    pub(crate) fn renew(&mut self, place: Place, near: Cursor)
-        requires { ContainsIdle self.old place }
+    // Makes the idle node that a lookup found the newest idle one. Takes no memory.
+    pub(crate) fn renew(&mut self, place: Place, link: At<Node<K, V>>)
+        requires idle { ContainsIdle self.old place }
+        requires link { LeadsTo self.old link place }
         ensures nodes { self.new.nodes ≡ self.old.nodes }
         ensures hashes { self.new.hashes ≡ self.old.hashes }
+        ensures links { self.new.links ≡ self.old.links }
         ensures idle { self.new.idle ≡ filter (λ p. not (p == place)) self.old.idle ++ place ∷ [] }
         ensures spare { self.old.spare ≤ self.new.spare }
         ensures work { self.new.work ≡ self.old.work + 2 }
-        ensures looks { self.new.looks ≤ self.old.looks + 1 }
+        ensures looks { self.new.looks ≡ self.old.looks }
     {
-        let pointer = self.order.slots.look_near(place.slot, near);
-        self.order.cut(pointer);
-        self.order.push(pointer, place.slot);
+        let slot = place.slot;
+        self.order.cut(link.ptr);
+        self.order.push(link.ptr, slot);
         self.work.tick();
         self.work.tick();
     }

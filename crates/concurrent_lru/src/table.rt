@@ -9,7 +9,7 @@ ghost use Rattle.concurrent_lru.specs.Cache.{count_of, pinned_of, CopiesAreEqual
 ghost use Rattle.std.specs.FinMap as map;
 ghost use Rattle.concurrent_lru.specs.NodeTable.{Entry, entry_of, hash_of as hash_in, new_entry, chain_of, phase_of, ContainsNode, LacksIdle, IsNewStamp};
 ghost use Rattle.concurrent_lru.specs.Representation.{as_idle, GetsEntry};
-ghost use Rattle.concurrent_lru.specs.Entries.{cache_of, charges_of, ContainsNoStamp, ContainsNoKey, IsPlaceOfKey, ContainsPlace, ContainsIdleAt, ContainsHeldAt, ContainsFoundAt, GetsAt, GetsNodeAt, IsReadyAt, Rewrites, RevivesAt, RestsAt, AddsOverHeld, AddsOverIdle, pins_at, held_with_pins, new_held};
+ghost use Rattle.concurrent_lru.specs.Entries.{cache_of, charges_of, ContainsNoStamp, ContainsNoKey, IsPlaceOfKey, ContainsPlace, ContainsIdleAt, ContainsHeldAt, ContainsFoundAt, GetsAt, GetsNodeAt, LeadsAt, IsReadyAt, Rewrites, RevivesAt, RestsAt, AddsOverHeld, AddsOverIdle, pins_at, held_with_pins, new_held};
 ghost use Rattle.concurrent_lru.specs.KeyHashes.{IsHashOf};
 ghost use Rattle.concurrent_lru.specs.Reads.{RenewsAt};
 ghost use Rattle.concurrent_lru.specs.StampIndex.{keeps_map, mapped_place, HasRoomFor};
@@ -24,7 +24,7 @@ mod word_hasher;
 
 pub use self::key_hashes::{KeyHash, seed_of_shard};
 pub use self::spot::{Hint, Spot};
-use crate::node_table::{Cursor, Found, Node, Nodes, Phase, Place, Refusal};
+use crate::node_table::{At, Found, Node, Nodes, Phase, Place, Refusal};
 use crate::table::stamp_index::StampIndex;
 use std::alloc::Global;
 use std::collections::HashMap;
@@ -145,6 +145,7 @@ impl<K: Hash + Eq + Clone, V: Drop> Table<K, V> {
         ensures found { MatchOption result (ContainsNoStamp self.now spot.now.stamp)
             (λ found. map.get self.now.stamps found.place ≡ Some spot.now.stamp) }
         ensures node { IfSome result (λ found. GetsNodeAt self.now found.place found.node.now) }
+        ensures link { IfSome result (λ found. LeadsAt self.now found.link found.place) }
     {
         match self.nodes.find_stamp_by_hash(spot.hint.hash, spot.stamp) {
             Some(found) => Some(found),
@@ -159,6 +160,7 @@ impl<K: Hash + Eq + Clone, V: Drop> Table<K, V> {
         ensures found { MatchOption result (ContainsNoStamp self.now stamp)
             (λ found. map.get self.now.stamps found.place ≡ Some stamp) }
         ensures node { IfSome result (λ found. GetsNodeAt self.now found.place found.node.now) }
+        ensures link { IfSome result (λ found. LeadsAt self.now found.link found.place) }
     {
         if self.nodes.has_stamp(near, stamp) {
             return Some(self.nodes.found(near));
@@ -175,6 +177,7 @@ impl<K: Hash + Eq + Clone, V: Drop> Table<K, V> {
     pub fn find_key(&self, key: &K) -> Result<Found<'_, K, V>, KeyHash>
         ensures found { IfOk result (λ found. IsPlaceOfKey K.eq self.now found.place key.now) }
         ensures node { IfOk result (λ found. GetsNodeAt self.now found.place found.node.now) }
+        ensures link { IfOk result (λ found. LeadsAt self.now found.link found.place) }
         ensures absent { OnErr result (ContainsNoKey K.eq self.now key.now) }
         ensures hash { IfErr result (λ hash. IsHashOf K.hash_input hash key.now) }
     {
@@ -280,27 +283,28 @@ impl<K: Hash + Eq + Clone, V: Drop> Table<K, V> {
 
     /// Sets the number of pins of a held entry, which stays held. Takes no memory.
     ///
-    /// In this call and those below, the lookup begins at a cursor. Any cursor will do; one that
-    /// leads to the node saves a read of the slab.
-    pub fn set_pins(&mut self, place: Place, near: Cursor, pins: u32)
+    /// In this call and those below, `link` is the one that a lookup found with the place.
+    pub fn set_pins(&mut self, place: Place, link: At<Node<K, V>>, pins: u32)
         requires held { ContainsHeldAt self.old place }
+        requires link { LeadsAt self.old link place }
         requires some { 0 < pins }
         ensures { Rewrites (held_with_pins pins) self.old place self.new }
     {
-        self.nodes.set_pins_near(place, near, pins);
+        self.nodes.write_pins(place, link, pins);
     }
 
     /// Adds a pin to an entry, which has `pins` pins. An idle entry leaves the idle order. Takes no
     /// memory.
     #[inline(always)]
-    pub fn pin(&mut self, place: Place, near: Cursor, pins: u32)
+    pub fn pin(&mut self, place: Place, link: At<Node<K, V>>, pins: u32)
         requires place { ContainsPlace self.old place }
+        requires link { LeadsAt self.old link place }
         requires pins { pins_at self.old place ≡ pins }
         requires room { pins + 1 < 2 ^ 32 }
         ensures revived { pins ≡ 0 → RevivesAt self.old place self.new }
         ensures held { pins ≢ 0 → Rewrites (held_with_pins (pins + 1)) self.old place self.new }
     {
-        let charge = self.nodes.pin(place, near, pins);
+        let charge = self.nodes.pin(place, link, pins);
         if pins > 0 {
             return;
         }
@@ -317,29 +321,32 @@ impl<K: Hash + Eq + Clone, V: Drop> Table<K, V> {
 
     /// Sets the phase of a held entry: its making is handed over, or its value is ready. Takes no
     /// memory.
-    pub fn set_phase(&mut self, place: Place, near: Cursor, phase: Phase<V>)
-        requires { ContainsHeldAt self.old place }
+    pub fn set_phase(&mut self, place: Place, link: At<Node<K, V>>, phase: Phase<V>)
+        requires held { ContainsHeldAt self.old place }
+        requires link { LeadsAt self.old link place }
         ensures { Rewrites (held_in_phase (phase_of phase)) self.old place self.new }
     {
-        self.nodes.set_phase_near(place, near, phase);
+        self.nodes.write_phase(place, link, phase);
     }
 
     /// Removes the pins of a ready entry, which becomes the newest idle one. Takes no memory.
     #[inline(always)]
-    pub fn make_idle(&mut self, place: Place, near: Cursor)
-        requires { IsReadyAt self.old place }
+    pub fn make_idle(&mut self, place: Place, link: At<Node<K, V>>)
+        requires ready { IsReadyAt self.old place }
+        requires link { LeadsAt self.old link place }
         ensures { RestsAt self.old place self.new }
     {
-        let charge = self.nodes.make_idle(place, near);
+        let charge = self.nodes.make_idle(place, link);
         self.idle_charge += charge;
     }
 
     /// Makes an idle entry the newest idle one, as pinning and releasing it does. Takes no memory.
-    pub fn renew(&mut self, place: Place, near: Cursor)
-        requires { ContainsIdleAt self.old place }
+    pub fn renew(&mut self, place: Place, link: At<Node<K, V>>)
+        requires idle { ContainsIdleAt self.old place }
+        requires link { LeadsAt self.old link place }
         ensures { RenewsAt self.old place self.new }
     {
-        self.nodes.renew(place, near);
+        self.nodes.renew(place, link);
     }
 }
 
@@ -374,6 +381,7 @@ fn make_room<K: Drop, V: Drop>(
     ensures refusal { IfErr result (λ e. e ≡ Refusal.Memory) }
     ensures nodes { nodes.new.nodes ≡ nodes.old.nodes }
     ensures hashes { nodes.new.hashes ≡ nodes.old.hashes }
+    ensures links { nodes.new.links ≡ nodes.old.links }
     ensures idle { nodes.new.idle ≡ nodes.old.idle }
     ensures work { nodes.new.work ≡ nodes.old.work }
     ensures keeps { keeps_map by_stamp.new ≡ keeps_map by_stamp.old }

@@ -37,8 +37,8 @@ module _ {K V : Type 0} {C : K → K → Type 0} {E : K → K → Bool} {H : K �
   }
 
 module _ {K V : Type 0} where
-  pub entries_same : (t t' : NodeTable K V) → t'.nodes ≡ t.nodes → t'.idle ≡ t.idle → t'.work ≡ t.work → entries_of t' ≡ entries_of t
-  entries_same t t' n i w = λ j. record { idle = filter_map (idle_at_place (n j)) (i j); held = from_entries (filter_map (held_at_place (n j)) (keys (n j))); stamps = stamps_of (n j); work = w j }
+  pub entries_same : (t t' : NodeTable K V) → t'.nodes ≡ t.nodes → t'.links ≡ t.links → t'.idle ≡ t.idle → t'.work ≡ t.work → entries_of t' ≡ entries_of t
+  entries_same t t' n l i w = λ j. record { idle = filter_map (idle_at_place (n j)) (i j); held = from_entries (filter_map (held_at_place (n j)) (keys (n j))); stamps = stamps_of (n j); links = l j; work = w j }
 
 module _ {K V : Type 0} (H : K → ℕ) where
   -- an entry more, at a place that was free

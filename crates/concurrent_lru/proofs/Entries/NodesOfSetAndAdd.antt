@@ -288,11 +288,11 @@ module _ {K V : Type 0} where
   -- the same nodes and idle places, whatever the room and the work
   pub represents_same : (old new : NodeTable K V) (places places' : List ℕ) → new.nodes ≡ old.nodes → new.idle ≡ old.idle → places' ≡ places → IsRepresentation old places → IsRepresentation new places'
   represents_same old new places places' m i p r =
-      let here : IsRepresentation (record { nodes = new.nodes; hashes = new.hashes; idle = old.idle; spare = new.spare; work = new.work; looks = new.looks }) places = subst (λ (n : FinMap nat_cmp (Entry K V)). IsRepresentation (record { nodes = n; hashes = new.hashes; idle = old.idle; spare = new.spare; work = new.work; looks = new.looks }) places) (sym m) (represents_spare r) in
-      let there : IsRepresentation new places = subst (λ (n : List ℕ). IsRepresentation (record { nodes = new.nodes; hashes = new.hashes; idle = n; spare = new.spare; work = new.work; looks = new.looks }) places) (sym i) here in
+      let here : IsRepresentation (record { nodes = new.nodes; hashes = new.hashes; links = new.links; idle = old.idle; spare = new.spare; work = new.work; looks = new.looks }) places = subst (λ (n : FinMap nat_cmp (Entry K V)). IsRepresentation (record { nodes = n; hashes = new.hashes; links = new.links; idle = old.idle; spare = new.spare; work = new.work; looks = new.looks }) places) (sym m) (represents_spare r) in
+      let there : IsRepresentation new places = subst (λ (n : List ℕ). IsRepresentation (record { nodes = new.nodes; hashes = new.hashes; links = new.links; idle = n; spare = new.spare; work = new.work; looks = new.looks }) places) (sym i) here in
       subst (IsRepresentation new) (sym p) there
     where
-      represents_spare : IsRepresentation old places → IsRepresentation (record { nodes = old.nodes; hashes = new.hashes; idle = old.idle; spare = new.spare; work = new.work; looks = new.looks }) places
+      represents_spare : IsRepresentation old places → IsRepresentation (record { nodes = old.nodes; hashes = new.hashes; links = new.links; idle = old.idle; spare = new.spare; work = new.work; looks = new.looks }) places
       represents_spare r = record { places_apart = r.places_apart; places_kept = r.places_kept; all_places = r.all_places; idle_apart = r.idle_apart; idle_ready = r.idle_ready; resting = r.resting; stamps = r.stamps }
 
   pub record Adds (old new : NodeTable K V) (places rest : List ℕ) (p : ℕ) (e : Entry K V) : Type 0 where

@@ -38,12 +38,13 @@ module _ {K V : Type 0} where
     pub there : IsIn p t.idle
     pub nodes : t'.nodes ≡ t.nodes
     pub hashes : t'.hashes ≡ t.hashes
+    pub links : t'.links ≡ t.links
     pub idle : t'.idle ≡ filter (λ q. not (eqb q p)) t.idle ++ p ∷ []
     pub work : t'.work ≡ t.work + 2
 
   -- the nodes between the pin and the release
   abbrev between : NodeTable K V → ℕ → Entry K V → NodeTable K V
-  between t p e = record { nodes = insert t.nodes p (entry_with_pins 1 e); hashes = t.hashes; idle = filter (λ q. not (eqb q p)) t.idle; spare = 0; work = t.work + 1; looks = 0 }
+  between t p e = record { nodes = insert t.nodes p (entry_with_pins 1 e); hashes = t.hashes; links = t.links; idle = filter (λ q. not (eqb q p)) t.idle; spare = 0; work = t.work + 1; looks = 0 }
 
 module _ {K V : Type 0} {C : K → K → Type 0} {E : K → K → Bool} {H : K → ℕ} {t t' : NodeTable K V} {by_stamp : StampIndex} {p : ℕ} {e : Entry K V} (r : IsStored C E H t by_stamp) (w : Renews t t' p e) where
   pins : WritesNode t (between t p e) p e (entry_with_pins 1 e)
@@ -69,7 +70,7 @@ module _ {K V : Type 0} {C : K → K → Type 0} {E : K → K → Bool} {H : K �
           entry = record { stamp = e.stamp; key = e.key; charge = e.charge; value = l.0 };
           at = place_at r p e w.at;
           idle = (idle_found r p e w.at w.there).1 ∙ as_idle-ready e l.0 l.2;
-          changed = entries_revived_by_one r pins l.0 refl l.1 l.2 refl;
+          changed = entries_revived_by_one r pins l.0 refl refl l.1 l.2 refl;
         };
         rested = record {
           was = record {
@@ -81,7 +82,7 @@ module _ {K V : Type 0} {C : K → K → Type 0} {E : K → K → Bool} {H : K �
             phase = l.2;
             found = r.indexed.idle_kept p e w.at l.1;
           };
-          changed = entries_rested stored_between releases refl refl l.0 w.idle refl l.1 l.2 (omega (arith, work));
+          changed = entries_rested stored_between releases refl refl l.0 w.links w.idle refl l.1 l.2 (omega (arith, work));
         };
       }
 

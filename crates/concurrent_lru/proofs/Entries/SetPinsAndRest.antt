@@ -38,40 +38,40 @@ module _ {K V : Type 0} {C : K → K → Type 0} {E : K → K → Bool} {H : K �
   pub stored_written : t'.hashes ≡ t.hashes → t'.idle ≡ t.idle → (e.pins == 0) ≡ false → (f.pins == 0) ≡ false → IsStored C E H t' by_stamp
   stored_written hashes i h k = stored_over hashes (λ none. absurd (true≢false (sym (eq-eqb f.pins 0 none) ∙ k))) (written_represents r.represents w i h k)
 
-  pub entries_written : t'.idle ≡ t.idle → (e.pins == 0) ≡ false → (f.pins == 0) ≡ false → t'.work ≡ t.work → entries_of t' ≡ record (entries_of t) { held = insert (held_in t (keys t.nodes)) e.stamp (held_entry f) }
-  entries_written i h k work =
+  pub entries_written : t'.links ≡ t.links → t'.idle ≡ t.idle → (e.pins == 0) ≡ false → (f.pins == 0) ≡ false → t'.work ≡ t.work → entries_of t' ≡ record (entries_of t) { held = insert (held_in t (keys t.nodes)) e.stamp (held_entry f) }
+  entries_written addresses i h k work =
       let held = held_over (written_represents r.represents w i h k) ∙ written_held r.represents w h k in
       let idle = written_idle r.represents w i h in
       let same = stamps_over in
-      λ j. record { idle = idle j; held = held j; stamps = same j; work = work j }
+      λ j. record { idle = idle j; held = held j; stamps = same j; links = addresses j; work = work j }
 
   -- idle before, held after
   pub stored_revived : t'.hashes ≡ t.hashes → t'.idle ≡ filter (λ q. not (eqb q p)) t.idle → (f.pins == 0) ≡ false → IsStored C E H t' by_stamp
   stored_revived hashes i k = stored_over hashes (λ none. absurd (true≢false (sym (eq-eqb f.pins 0 none) ∙ k))) (revived_represents r.represents w i k)
 
-  pub entries_revived : (v : V) → t'.idle ≡ filter (λ q. not (eqb q p)) t.idle → e.pins ≡ 0 → e.phase ≡ ready v → (f.pins == 0) ≡ false → t'.work ≡ t.work + 1 → entries_of t' ≡ record (entries_of t) { idle = without e.stamp (idle_in t); held = insert (held_in t (keys t.nodes)) e.stamp (held_entry f); work = t.work + 1 }
-  entries_revived v i z ph k work =
+  pub entries_revived : (v : V) → t'.links ≡ t.links → t'.idle ≡ filter (λ q. not (eqb q p)) t.idle → e.pins ≡ 0 → e.phase ≡ ready v → (f.pins == 0) ≡ false → t'.work ≡ t.work + 1 → entries_of t' ≡ record (entries_of t) { idle = without e.stamp (idle_in t); held = insert (held_in t (keys t.nodes)) e.stamp (held_entry f); work = t.work + 1 }
+  entries_revived v addresses i z ph k work =
       let held = held_over (revived_represents r.represents w i k) ∙ revived_held r.represents w (eq-eqb e.pins 0 z) k in
       let idle = revived_idle v r.represents w i z ph in
       let same = stamps_over in
-      λ j. record { idle = idle j; held = held j; stamps = same j; work = work j }
+      λ j. record { idle = idle j; held = held j; stamps = same j; links = addresses j; work = work j }
 
   -- held before, idle after
   pub stored_rested : t'.hashes ≡ t.hashes → (v : V) → t'.idle ≡ t.idle ++ p ∷ [] → (e.pins == 0) ≡ false → f.pins ≡ 0 → f.phase ≡ ready v → e.detached ≡ false → IsStored C E H t' by_stamp
   stored_rested hashes v i h z ph found = stored_over hashes (λ _. found) (rested_represents r.represents w v i h z ph)
 
-  pub entries_rested : (v : V) → t'.idle ≡ t.idle ++ p ∷ [] → (e.pins == 0) ≡ false → f.pins ≡ 0 → f.phase ≡ ready v → t'.work ≡ t.work + 1
+  pub entries_rested : (v : V) → t'.links ≡ t.links → t'.idle ≡ t.idle ++ p ∷ [] → (e.pins == 0) ≡ false → f.pins ≡ 0 → f.phase ≡ ready v → t'.work ≡ t.work + 1
       → entries_of t' ≡ record (entries_of t) { idle = idle_in t ++ record { stamp = f.stamp; key = f.key; charge = f.charge; value = v } ∷ []; held = remove (held_in t (keys t.nodes)) e.stamp; work = t.work + 1 }
-  entries_rested v i h z ph work =
+  entries_rested v addresses i h z ph work =
       let held = held_over (rested_represents r.represents w v i h z ph) ∙ rested_held r.represents w h (eq-eqb f.pins 0 z) in
       let idle = rested_idle r.represents w v i h ph in
       let same = stamps_over in
-      λ j. record { idle = idle j; held = held j; stamps = same j; work = work j }
+      λ j. record { idle = idle j; held = held j; stamps = same j; links = addresses j; work = work j }
 
 module _ {K V : Type 0} {C : K → K → Type 0} {E : K → K → Bool} {H : K → ℕ} {t t' : NodeTable K V} {by_stamp : StampIndex} {p : ℕ} {e : Entry K V} (r : IsStored C E H t by_stamp) (w : WritesNode t t' p e (entry_with_pins 1 e)) where
-  pub entries_revived_by_one : (v : V) → t'.idle ≡ filter (λ q. not (eqb q p)) t.idle → e.pins ≡ 0 → e.phase ≡ ready v → t'.work ≡ t.work + 1
+  pub entries_revived_by_one : (v : V) → t'.links ≡ t.links → t'.idle ≡ filter (λ q. not (eqb q p)) t.idle → e.pins ≡ 0 → e.phase ≡ ready v → t'.work ≡ t.work + 1
       → entries_of t' ≡ record (entries_of t) { idle = without e.stamp (idle_in t); held = insert (held_in t (keys t.nodes)) e.stamp (record { key = e.key; charge = e.charge; pins = 1; detached = false; phase = ready v }); work = t.work + 1 }
-  entries_revived_by_one v i z ph work = let found = r.indexed.idle_kept p e w.at z in entries_revived r w refl refl v i z ph refl work
+  entries_revived_by_one v addresses i z ph work = let found = r.indexed.idle_kept p e w.at z in entries_revived r w refl refl v addresses i z ph refl work
       ∙ (λ j. record (entries_of t) { idle = without e.stamp (idle_in t); held = insert (held_in t (keys t.nodes)) e.stamp (record { key = e.key; charge = e.charge; pins = 1; detached = found j; phase = ph j }); work = t.work + 1 })
 
 module _ {K V : Type 0} {C : K → K → Type 0} {E : K → K → Bool} {H : K → ℕ} {t t' : NodeTable K V} {by_stamp : StampIndex} {p : ℕ} {e : Entry K V} (r : IsStored C E H t by_stamp) (w : WritesNode t t' p e (entry_detached e)) where
@@ -85,10 +85,10 @@ module _ {K V : Type 0} {C : K → K → Type 0} {E : K → K → Bool} {H : K �
   }
 
 module _ {K V : Type 0} {C : K → K → Type 0} {E : K → K → Bool} {H : K → ℕ} {t t' : NodeTable K V} {by_stamp : StampIndex} {p : ℕ} {e : Entry K V} (r : IsStored C E H t by_stamp) (w : WritesNode t t' p e (entry_detached e)) where
-  pub entries_detached : t'.idle ≡ t.idle → (e.pins == 0) ≡ false → t'.work ≡ t.work → entries_of t' ≡ record (entries_of t) { held = insert (held_in t (keys t.nodes)) e.stamp (held_entry (entry_detached e)) }
-  entries_detached i h work =
+  pub entries_detached : t'.links ≡ t.links → t'.idle ≡ t.idle → (e.pins == 0) ≡ false → t'.work ≡ t.work → entries_of t' ≡ record (entries_of t) { held = insert (held_in t (keys t.nodes)) e.stamp (held_entry (entry_detached e)) }
+  entries_detached addresses i h work =
       let there = written_represents r.represents w i h h in
       let held = held_alike t' (keys t'.nodes) (keys t.nodes) (represents_keys t' (keys t.nodes) there) there ∙ written_held r.represents w h h in
       let idle = written_idle r.represents w i h in
       let same = ap stamps_of w.nodes ∙ stamps_same t.nodes p e (entry_detached e) w.at w.stamp in
-      λ j. record { idle = idle j; held = held j; stamps = same j; work = work j }
+      λ j. record { idle = idle j; held = held j; stamps = same j; links = addresses j; work = work j }

@@ -29,10 +29,10 @@ module _ {K V : Type 0} where
 module _ {K V : Type 0} {C : K → K → Type 0} {E : K → K → Bool} {H : K → ℕ} (t t' : NodeTable K V) (by_stamp by_stamp' : StampIndex) {total idle_charge : ℕ} (sound : IsSoundTable C E H t by_stamp total idle_charge) where
   -- room was made for more entries, which are the ones that were seen
   pub grown : {A B : Type 0} {seen : Entries K V} → entries_of t ≡ seen
-      → record { ok : A; refusal : B; nodes : t'.nodes ≡ t.nodes; hashes : t'.hashes ≡ t.hashes; idle : t'.idle ≡ t.idle; work : t'.work ≡ t.work; keeps : keeps_map by_stamp' ≡ keeps_map by_stamp; by_stamp : (s : ℕ) → mapped_place by_stamp' s ≡ mapped_place by_stamp s }
+      → record { ok : A; refusal : B; nodes : t'.nodes ≡ t.nodes; hashes : t'.hashes ≡ t.hashes; links : t'.links ≡ t.links; idle : t'.idle ≡ t.idle; work : t'.work ≡ t.work; keeps : keeps_map by_stamp' ≡ keeps_map by_stamp; by_stamp : (s : ℕ) → mapped_place by_stamp' s ≡ mapped_place by_stamp s }
       → record { sound : IsSoundTable C E H t' by_stamp' total idle_charge; same : entries_of t' ≡ seen }
   grown is g =
-      let same = entries_same t t' g.nodes g.idle g.work in
+      let same = entries_same t t' g.nodes g.links g.idle g.work in
       record { sound = record { stored = stored_same sound.stored g.nodes g.hashes g.idle g.keeps g.by_stamp; sums = sound.sums ∙ ap charges_of (sym same); rests = sound.rests ∙ ap (λ x. charges x.idle) (sym same) }; same = same ∙ is }
 
   -- a new entry was added
@@ -53,14 +53,14 @@ module _ {K V : Type 0} {C : K → K → Type 0} {E : K → K → Bool} {H : K �
 
 module _ {K V : Type 0} {C : K → K → Type 0} {E : K → K → Bool} {H : K → ℕ} (t t' : NodeTable K V) {by_stamp : StampIndex} {total idle_charge : ℕ} (sound : IsSoundTable C E H t by_stamp total idle_charge) where
   -- a held entry was detached, and a stamp that was new is still new
-  pub with_detached : {S : Type 0} (p : ℕ) → ContainsFoundAt (entries_of t) p → record { nodes : t'.nodes ≡ update_at entry_detached t.nodes p; hashes : t'.hashes ≡ t.hashes; idle : t'.idle ≡ t.idle; spare : S; work : t'.work ≡ t.work }
+  pub with_detached : {S : Type 0} (p : ℕ) → ContainsFoundAt (entries_of t) p → record { nodes : t'.nodes ≡ update_at entry_detached t.nodes p; hashes : t'.hashes ≡ t.hashes; links : t'.links ≡ t.links; idle : t'.idle ≡ t.idle; spare : S; work : t'.work ≡ t.work }
       → record { sound : IsSoundTable C E H t' by_stamp total idle_charge; fresh : (s : ℕ) → ContainsNoStamp (entries_of t) s → IsNewStamp t' s; free : (s : ℕ) → ContainsNoStamp (entries_of t) s → get (entries_of t').held s ≡ None; detached : Rewrites held_detached (entries_of t) p (entries_of t') }
   with_detached p h d =
       let r = sound.stored in
       let n = some_node r p (h.0, h.1) in
       let writes = detached_writes t t' p n.0 n.1 d.nodes in
       let pinned = held_node r p n.0 (found_place r p h) n.1 in
-      let changed = entries_detached r writes d.idle pinned d.work in
+      let changed = entries_detached r writes d.links d.idle pinned d.work in
       let there = held_found r p n.0 n.1 pinned in
       record {
         sound = record {
@@ -84,7 +84,7 @@ module _ {K V : Type 0} {C : K → K → Type 0} {E : K → K → Bool} {H : K �
 
 module _ {K V : Type 0} (t mid t' : NodeTable K V) (by_stamp by_stamp' : StampIndex) (p : ℕ) (e : Entry K V) where
   -- what a removal from the order, and then from the nodes, takes out
-  pub idle_taken : {S L A R Q T : Type 0} → record { nodes : mid.nodes ≡ t.nodes; hashes : mid.hashes ≡ t.hashes; idle : mid.idle ≡ filter (λ q. not (q == p)) t.idle; spare : S; work : mid.work ≡ t.work + 1; looks : L }
+  pub idle_taken : {N S L A R Q T : Type 0} → record { nodes : mid.nodes ≡ t.nodes; hashes : mid.hashes ≡ t.hashes; links : N; idle : mid.idle ≡ filter (λ q. not (q == p)) t.idle; spare : S; work : mid.work ≡ t.work + 1; looks : L }
       → record { entry : get mid.nodes p ≡ Some e; alone : A; nodes : t'.nodes ≡ remove mid.nodes p; hashes : t'.hashes ≡ remove mid.hashes p; idle : t'.idle ≡ mid.idle; work : t'.work ≡ mid.work; keeps : keeps_map by_stamp' ≡ keeps_map by_stamp; by_stamp : keeps_map by_stamp ≡ true → (s : ℕ) → mapped_place by_stamp' s ≡ cond (eqb e.stamp s) None (mapped_place by_stamp s); room : R; stamp_room : Q; total : T }
       → IsTaken t t' by_stamp by_stamp' p e
   idle_taken removed took = record {

@@ -11,7 +11,9 @@ use Rattle.concurrent_lru.specs.Cache.{Phase, making, ready, Idle, Held, IsFront
 use Rattle.concurrent_lru.specs.Steps.{ChangesPhase, held_in_phase, held_detached, Departs, Ends, PinsAgain, Repins, Detaches, IsAbsent, Makes, Joins, Revives, Hits, Leaves, Removes, Rests, Drops, held_by_one, without, with_capacity}
 use Rattle.concurrent_lru.specs.NodeTable.{Entry}
 use Rattle.concurrent_lru.specs.Representation.{held_entry, as_idle}
-use Rattle.concurrent_lru.specs.Entries.{Entries, cache_with, cache_of, charges_of, new_held, GetsAt, ContainsHeldAt, Rewrites, RevivesAt, RestsAt, held_with_pins}
+use Rattle.concurrent_lru.specs.Entries.{Entries, cache_with, cache_of, charges_of, new_held, GetsAt, LeadsAt, ContainsHeldAt, Rewrites, RevivesAt, RestsAt, held_with_pins}
+use Rattle.concurrent_lru.specs.declared.node_table.Node.{Node}
+use Rattle.concurrent_lru.specs.declared.node_table.memory.At.{At}
 use Rattle.concurrent_lru.proofs.Steps.BeginOfAbsent.{as_idle-ready}
 use Rattle.concurrent_lru.proofs.Entries.NodesOfSetAndAdd.{inserted_at}
 use Rattle.concurrent_lru.proofs.Lists.DistinctEntries.{same}
@@ -34,6 +36,10 @@ module _ {K V : Type 0} where
     ap (λ x. get x.stamps p) w.changed ∙ w.at,
     ap (λ x. is_some (get x.held w.stamp)) w.changed ∙ ap is_some (inserted_at t.held w.stamp (f w.entry)),
   )
+
+  -- and its node keeps its address
+  pub still_leads : {t u : Entries K V} {p : ℕ} {f : Held K V → Held K V} {link : At (Node K V)} → Rewrites f t p u → LeadsAt t link p → LeadsAt u link p
+  still_leads {t} {u} {p} w at = ap (λ x. get x.links p) w.changed ∙ at
 
 module _ {K V : Type 0} {t : Entries K V} {p : ℕ} {e : Entry K V} (here : GetsAt t p e) (some : e.pins ≢ 0) where
   -- a held node rewritten, and once more
@@ -67,7 +73,7 @@ module _ {K V : Type 0} (E : K → K → Bool) (capacity most next : ℕ) where
     copy = copy;
     same_key = equal;
     settles = record {
-      front = subst (λ (t : Entries K V). IsFront (charges_of t) capacity t.idle out new.idle) (λ j. record { idle = idle j; held = held j; stamps = added.stamps; work = added.work }) front;
+      front = subst (λ (t : Entries K V). IsFront (charges_of t) capacity t.idle out new.idle) (λ j. record { idle = idle j; held = held j; stamps = added.stamps; links = added.links; work = added.work }) front;
       others = λ j. record { capacity = capacity; most_pins = most; next = next + 1; idle = new.idle; held = (settled ∙ held) j };
     };
   }

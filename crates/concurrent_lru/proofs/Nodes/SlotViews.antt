@@ -279,6 +279,22 @@ module _ {K V : Type 0} where
   pub hash_had : (o : Order K V) (w : ℕ) (v : NodeTable K V) → node_table_of o w ≡ v → (k p : ℕ) → k ≡ p → fin.get v.hashes p ≡ hash_in (cell_at (cells_of o.slots) k)
   hash_had o w v e k p f = (λ i. fin.get (sym e i).hashes (sym f i)) ∙ map_of_slots_at (map hash_in (cells_of o.slots)) k ∙ get_or-map_option hash_in refl (cells_of o.slots) k
 
+  -- ---- the addresses
+  pub link_had : (o : Order K V) (w : ℕ) (v : NodeTable K V) → node_table_of o w ≡ v → (k p : ℕ) → k ≡ p → fin.get v.links p ≡ ptr_in (cell_at (cells_of o.slots) k)
+  link_had o w v e k p f = (λ i. fin.get (sym e i).links (sym f i)) ∙ map_of_slots_at (map ptr_in (cells_of o.slots)) k ∙ get_or-map_option ptr_in refl (cells_of o.slots) k
+
+  -- the address of a place leads to its slot, and what leads to the slot is the address
+  pub link_leads : (o : Order K V) (w : ℕ) (v : NodeTable K V) → node_table_of o w ≡ v → (k p : ℕ) → k ≡ p → IsTied o.slots → (a : Ptr) → fin.get v.links p ≡ Some a → LeadsTo o.slots a k
+  link_leads o w v e k p f tied a h = tied.apart k a (sym (link_had o w v e k p f) ∙ h)
+
+  pub leads_link : (o : Order K V) (w : ℕ) (v : NodeTable K V) → node_table_of o w ≡ v → (k p : ℕ) → k ≡ p → (a : Ptr) → LeadsTo o.slots a k → fin.get v.links p ≡ Some a
+  leads_link o w v e k p f a h = let there = value_at_slot (cells_of o.slots) a k h in link_had o w v e k p f ∙ ap ptr_in there.1 ∙ ap Some there.2
+
+  -- nodes whose slab stays keep their addresses
+  pub addresses_same : (s t : Slots K V) → IsTied s → IsTied t → t.pointers ≡ s.pointers → map_of_slots (map ptr_in (cells_of t)) ≡ map_of_slots (map ptr_in (cells_of s))
+  addresses_same s t was is same = made_same (map ptr_in (cells_of s)) (map ptr_in (cells_of t))
+      (λ q. get_or-map_option ptr_in refl (cells_of t) q ∙ is.pointers q ∙ ap (λ l. ptr_of (get l q)) same ∙ sym (was.pointers q) ∙ sym (get_or-map_option ptr_in refl (cells_of s) q))
+
   -- at least as much to spare as before
   pub spare_kept : (o : Order K V) (t : Slots K V) (v : NodeTable K V) (w : ℕ) → node_table_of o w ≡ v → spare_of o.slots ≤ spare_of t → v.spare ≤ spare_of t
   spare_kept o t v w e le = subst (λ n. n ≤ spare_of t) (ap (λ (x : NodeTable K V). x.spare) e) le

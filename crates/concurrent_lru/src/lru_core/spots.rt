@@ -43,7 +43,7 @@ where
             Ok(found) => found,
             Err(hash) => return self.make(hash, key, charge),
         };
-        let Found { place, near, node } = found;
+        let Found { place, link, node } = found;
         let (stamp, pins, hash) = (node.stamp, node.pins, node.hash);
         if pins == self.most_pins {
             return Err(Refusal::Overflow);
@@ -51,17 +51,17 @@ where
         let hint = Hint { hash, place };
         match &node.phase {
             Phase::Making => {
-                self.table.set_pins(place, near, pins + 1);
+                self.table.set_pins(place, link, pins + 1);
                 Ok((Begun::Wait(stamp), Evicted::none(), hint))
             }
             Phase::Untaken => {
-                self.table.set_pins(place, near, pins + 1);
-                self.table.set_phase(place, near, Phase::Making);
+                self.table.set_pins(place, link, pins + 1);
+                self.table.set_phase(place, link, Phase::Making);
                 Ok((Begun::Make(stamp), Evicted::none(), hint))
             }
             Phase::Ready(value) => {
                 let share = value.share()?;
-                self.table.pin(place, near, pins);
+                self.table.pin(place, link, pins);
                 Ok((Begun::Hit(stamp, share), Evicted::none(), hint))
             }
         }
@@ -167,14 +167,14 @@ where
         let Some(found) = self.table.find_stamp(spot) else {
             return Err(Refusal::Stale);
         };
-        let Found { place, near, node } = found;
+        let Found { place, link, node } = found;
         if node.pins == 0 {
             return Err(Refusal::Stale);
         }
         match &node.phase {
             Phase::Making => Ok(Begun::Wait(spot.stamp)),
             Phase::Untaken => {
-                self.table.set_phase(place, near, Phase::Making);
+                self.table.set_phase(place, link, Phase::Making);
                 Ok(Begun::Make(spot.stamp))
             }
             Phase::Ready(value) => Ok(Begun::Hit(spot.stamp, value.share()?)),
@@ -192,12 +192,12 @@ where
         let Some(found) = self.table.find_stamp(spot) else {
             return Err(value);
         };
-        let Found { place, near, node } = found;
+        let Found { place, link, node } = found;
         let Phase::Making = &node.phase else {
             return Err(value);
         };
         self.table
-            .set_phase(place, near, Phase::Ready(Stored::new(value)));
+            .set_phase(place, link, Phase::Ready(Stored::new(value)));
         Ok(())
     }
 
@@ -222,7 +222,7 @@ where
         let Some(found) = self.table.find_stamp(spot) else {
             return (Err(value), false);
         };
-        let Found { place, near, node } = found;
+        let Found { place, link, node } = found;
         let shared = node.pins > 1;
         if node.key != *key {
             return (Err(value), shared);
@@ -231,7 +231,7 @@ where
             return (Err(value), shared);
         };
         let stored = Stored::new(value);
-        self.table.set_phase(place, near, Phase::Ready(stored));
+        self.table.set_phase(place, link, Phase::Ready(stored));
         (Ok(()), shared)
     }
 
@@ -245,14 +245,14 @@ where
         let Some(found) = self.table.find_stamp(spot) else {
             return Err(Refusal::Stale);
         };
-        let Found { place, near, node } = found;
+        let Found { place, link, node } = found;
         let pins = node.pins;
         let Phase::Making = &node.phase else {
             return Err(Refusal::Stale);
         };
         if pins > 1 {
-            self.table.set_pins(place, near, pins - 1);
-            self.table.set_phase(place, near, Phase::Untaken);
+            self.table.set_pins(place, link, pins - 1);
+            self.table.set_phase(place, link, Phase::Untaken);
             return Ok(Failed::Left);
         }
         let node = self.table.take_held(place);
@@ -281,7 +281,7 @@ where
         let Ok(found) = self.table.find_key(key) else {
             return Ok(None);
         };
-        let Found { place, near, node } = found;
+        let Found { place, link, node } = found;
         let (stamp, pins, hash) = (node.stamp, node.pins, node.hash);
         let Phase::Ready(value) = &node.phase else {
             return Ok(None);
@@ -292,7 +292,7 @@ where
         // The node is found before the copy, since a processor starts no later read until an atomic
         // instruction has completed.
         let share = value.share()?;
-        self.table.pin(place, near, pins);
+        self.table.pin(place, link, pins);
         Ok(Some((stamp, share, Hint { hash, place })))
     }
 
@@ -307,7 +307,7 @@ where
         let Some(found) = self.table.find_stamp(spot) else {
             return Err(Refusal::Stale);
         };
-        let Found { place, near, node } = found;
+        let Found { place, link, node } = found;
         let (pins, detached) = (node.pins, node.detached);
         let Phase::Ready(_) = &node.phase else {
             return Err(Refusal::Stale);
@@ -316,13 +316,13 @@ where
             return Err(Refusal::Stale);
         }
         if pins > 1 {
-            self.table.set_pins(place, near, pins - 1);
+            self.table.set_pins(place, link, pins - 1);
             return Ok(Evicted::none());
         }
         if detached {
             return Ok(Evicted::one(self.table.take_held(place)));
         }
-        self.table.make_idle(place, near);
+        self.table.make_idle(place, link);
         Ok(self.table.settle(self.capacity))
     }
 
@@ -336,7 +336,7 @@ where
         let Some(found) = self.table.find_stamp(spot) else {
             return Err(Refusal::Stale);
         };
-        let Found { place, near, node } = found;
+        let Found { place, link, node } = found;
         let pins = node.pins;
         let Phase::Ready(_) = &node.phase else {
             return Err(Refusal::Stale);
@@ -345,7 +345,7 @@ where
             return Err(Refusal::Stale);
         }
         if pins > 1 {
-            self.table.set_pins(place, near, pins - 1);
+            self.table.set_pins(place, link, pins - 1);
             return Ok(Evicted::none());
         }
         // The total only falls, so nothing else has to leave.
@@ -363,7 +363,7 @@ where
         let Some(found) = self.table.find_stamp(spot) else {
             return Err(Refusal::Stale);
         };
-        let Found { place, near, node } = found;
+        let Found { place, link, node } = found;
         let pins = node.pins;
         let Phase::Ready(value) = &node.phase else {
             return Err(Refusal::Stale);
@@ -372,7 +372,7 @@ where
             return Err(Refusal::Overflow);
         }
         let share = value.share()?;
-        self.table.pin(place, near, pins);
+        self.table.pin(place, link, pins);
         Ok(share)
     }
 

@@ -12,7 +12,7 @@ use std::marker::{Model, PhantomData, Send, Sync};
 use std::ptr;
 
 // The address of a value. It owns nothing.
-pub(super) struct At<T> {
+pub(crate) struct At<T> {
     pub(super) ptr: *mut T,
 }
 

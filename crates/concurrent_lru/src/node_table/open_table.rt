@@ -11,7 +11,7 @@
 //!
 //! The lowest bits of a hash choose the bucket at which its walk begins. A caller that has already
 //! divided items by some bits of their hashes, as among shards, must have used others.
-ghost use Rattle.std.specs.Prelude.{◌≡◌, ◌≢◌, ℕ, ◌+◌, ◌<◌, ◌≤◌, [], ◌∷◌, Contains, OnOk, OnErr, IsTrue};
+ghost use Rattle.std.specs.Prelude.{◌≡◌, ◌≢◌, ℕ, ◌+◌, ◌<◌, ◌≤◌, [], ◌∷◌, Contains, OnOk, OnErr};
 ghost use Rattle.concurrent_lru.specs.Probing.Probes.{mark_at, marks_of};
 ghost use Rattle.concurrent_lru.specs.Probing.Entries.{count, entry, Has, Holds, IsSame, Adds, Removes};
 ghost use Rattle.concurrent_lru.specs.Probing.OpenTable.{mark_of as mark_for, capacity, IsFilled, HasMark, walk};
@@ -121,14 +121,6 @@ impl<T: Copy> OpenTable<T> {
         let mark = self.buckets[cursor.bucket].mark;
         let next = next_of(self.buckets.len(), cursor.bucket);
         find_mark(&self.buckets, mark, next)
-    }
-
-    /// Returns whether an item lies at a cursor, which may be stale.
-    #[inline(always)]
-    pub(super) fn is_filled(&self, cursor: Cursor) -> bool
-        ensures { IsTrue result → IsFilled self.now cursor }
-    {
-        cursor.bucket < self.buckets.len() && self.buckets[cursor.bucket].mark != 0
     }
 
     /// Returns the item at a cursor.

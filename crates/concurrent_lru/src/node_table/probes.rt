@@ -28,16 +28,8 @@ pub(super) struct Bucket<T> {
 
 /// Where an item lies. It becomes stale with the next insertion, removal or growth.
 #[derive(Clone, Copy)]
-pub(crate) struct Cursor {
+pub(super) struct Cursor {
     pub(super) bucket: usize,
-}
-
-impl Cursor {
-    /// Returns a cursor at which no item lies.
-    #[inline(always)]
-    pub(crate) fn nowhere() -> Cursor {
-        Cursor { bucket: usize::MAX }
-    }
 }
 
 impl Model for Cursor {

@@ -1,8 +1,8 @@
 //! The nodes in their slots: a slab of pointers, the memory that they point to, and a table that
 //! leads to the nodes from the hashes of their keys.
 //!
-//! A node is reached for writing by a lookup, which is counted, or by a link in another node. The
-//! slab is private, so that no lookup for a write goes uncounted.
+//! A node is reached for writing by its place, a lookup that is counted, or by a link: the one that
+//! a lookup for reading found, or one in another node.
 ghost use Rattle.std.specs.Prelude.{◌≡◌, ℕ, ◌+◌, ◌<◌, ◌≤◌, [], Some, None, IsTrue, IsFalse, OnOk, MatchOption};
 ghost use Rattle.std.specs.Borrow.{sem};
 ghost use Rattle.slab.specs.Slab.{HasRoomFor, slab_len};
@@ -260,23 +260,13 @@ impl<K: Drop, V: Drop> Slots<K, V> {
         self.pointers[slot].ptr
     }
 
-    // Returns a pointer to the node in a slot, as `look` does. Any cursor will do: if it leads to
-    // the node, the slab is not read.
-    #[inline(always)]
-    pub(super) fn look_near(&mut self, slot: usize, near: Cursor) -> *mut Node<K, V>
-        requires tied { IsTied self.old }
-        requires listed { IsListed self.old }
-        requires present { HasNode self.old slot }
-        ensures tied { IsTied self.new }
-        ensures link { LeadsTo self.old result slot }
-        ensures rest { self.new ≡ record self.old { looks = self.new.looks } }
-        ensures looks { self.new.looks.count ≡ self.old.looks.count + 1 }
+    // Returns the address of the node in a slot, as a lookup does that finds it.
+    pub(super) fn link(&self, slot: usize) -> At<Node<K, V>>
+        requires tied { IsTied self.now }
+        requires present { HasNode self.now slot }
+        ensures { LeadsTo self.now result.ptr slot }
     {
-        if self.by_hash.is_filled(near) && self.candidate(near).slot == slot {
-            self.looks.tick();
-            return self.by_hash.item(near).ptr;
-        }
-        self.look(slot)
+        self.pointers[slot]
     }
 
     // Returns the node at the end of a link for reading.

@@ -10,7 +10,7 @@ use Rattle.concurrent_lru.proofs.Steps.NotReady.{unready_not_ready}
 use Rattle.concurrent_lru.proofs.Steps.BeginOfHeld.{joins_lawful}
 use Rattle.concurrent_lru.proofs.Steps.StaysLawful.{hits_lawful}
 use Rattle.concurrent_lru.proofs.Steps.MemoryRefused.{begun_memory}
-use Rattle.concurrent_lru.proofs.Entries.StepsOfEntries.{still_held, rewritten_twice, joins, joins_as_it_is, hits}
+use Rattle.concurrent_lru.proofs.Entries.StepsOfEntries.{still_held, still_leads, rewritten_twice, joins, joins_as_it_is, hits}
 use Rattle.concurrent_lru.proofs.lru_core.State.begin_at.Goals as goal
 use Rattle.concurrent_lru.proofs.lru_core.State.begin_at.Goals.{After-none, After-none-in-Untaken, After-none-in-Ready}
 
@@ -59,8 +59,11 @@ overflow_add-pins-in-Untaken g c = let room = has_room c.in-Ok.ensures.node.entr
 pub set_pins-requires-in-Untaken-clause-held : goal.set_pins-requires-in-Untaken-clause-held
 set_pins-requires-in-Untaken-clause-held g c = let here = c.in-Ok.ensures.node.entry in held_place here (unready_pinned here (unready_not_ready _ (inr (ap phase_of c.in-Untaken.is))))
 
-pub set_phase-requires : goal.set_phase-requires
-set_phase-requires g c = still_held c.set_pins-in-Untaken.ensures
+pub set_phase-requires-clause-held : goal.set_phase-requires-clause-held
+set_phase-requires-clause-held g c = still_held c.set_pins-in-Untaken.ensures
+
+pub set_phase-requires-clause-link : goal.set_phase-requires-clause-link
+set_phase-requires-clause-link g c = still_leads c.set_pins-in-Untaken.ensures c.in-Ok.ensures.link
 
 takes : (g : _) (c : After-none-in-Untaken g) → Joins g.K.PartialEq.eq (cache_with c.self.inside.capacity c.self.inside.most_pins c.self.inside.next c.self.inside.table) c.args.key.now (entry_of c.in-Ok.found.node.now).stamp untaken making [] (cache_with c.self.inside.capacity c.self.inside.most_pins c.self.inside.next c.set_phase.new.self)
 takes g c =
@@ -96,7 +99,7 @@ returns-in_err-share-in-Ready-clause-step g c =
 pub pin-requires : goal.pin-requires
 pin-requires g c =
     let room = has_room c.in-Ok.ensures.node.entry c.self.invariant.lawful c.self.invariant.pins_above c.if-pins-self.false in
-    record { place = ((entry_of c.in-Ok.found.node.now).stamp, c.in-Ok.ensures.node.entry.at); pins = c.in-Ok.ensures.node.pins; room = omega (arith, room) }
+    record { place = ((entry_of c.in-Ok.found.node.now).stamp, c.in-Ok.ensures.node.entry.at); link = c.in-Ok.ensures.link; pins = c.in-Ok.ensures.node.pins; room = omega (arith, room) }
 
 found : (g : _) (c : After-none-in-Ready g) → Hits g.K.PartialEq.eq (cache_with c.self.inside.capacity c.self.inside.most_pins c.self.inside.next c.self.inside.table) c.args.key.now (entry_of c.in-Ok.found.node.now).stamp c.in-Ready.value [] (cache_with c.self.inside.capacity c.self.inside.most_pins c.self.inside.next c.pin.new.self)
 found g c =

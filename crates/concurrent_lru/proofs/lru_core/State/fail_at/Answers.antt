@@ -8,7 +8,7 @@ use Rattle.concurrent_lru.proofs.Entries.EntryAtPlace.{held_place, not_in_phase,
 use Rattle.concurrent_lru.proofs.Steps.NotReady.{unready_not_ready}
 use Rattle.concurrent_lru.proofs.Steps.ReadyAndPoll.{phase_making}
 use Rattle.concurrent_lru.proofs.Steps.Release.{leaves_lawful}
-use Rattle.concurrent_lru.proofs.Entries.StepsOfEntries.{still_held, rewritten_twice, leaves, removes}
+use Rattle.concurrent_lru.proofs.Entries.StepsOfEntries.{still_held, still_leads, rewritten_twice, leaves, removes}
 use Rattle.concurrent_lru.proofs.lru_core.State.fail_at.Goals as goal
 use Rattle.concurrent_lru.proofs.lru_core.State.fail_at.Goals.{After-set_phase, After-into_inner-key}
 
@@ -21,8 +21,11 @@ returns-in_default-phase g c = record { step = (not_in_phase c.in-Some.ensures.n
 pub set_pins-requires-clause-held : goal.set_pins-requires-clause-held
 set_pins-requires-clause-held g c = let many = c.if-pins-gt1.true in held_place c.in-Some.ensures.node.entry (λ none. omega (arith, none, many))
 
-pub set_phase-requires : goal.set_phase-requires
-set_phase-requires g c = still_held c.set_pins.ensures
+pub set_phase-requires-clause-held : goal.set_phase-requires-clause-held
+set_phase-requires-clause-held g c = still_held c.set_pins.ensures
+
+pub set_phase-requires-clause-link : goal.set_phase-requires-clause-link
+set_phase-requires-clause-link g c = still_leads c.set_pins.ensures c.in-Some.ensures.link
 
 gives_up : (g : _) (c : After-set_phase g) → Leaves g.K.PartialEq.eq (cache_with c.self.inside.capacity c.self.inside.most_pins c.self.inside.next c.self.inside.table) c.args.spot.now.stamp making untaken [] (cache_with c.self.inside.capacity c.self.inside.most_pins c.self.inside.next c.set_phase.new.self)
 gives_up g c =

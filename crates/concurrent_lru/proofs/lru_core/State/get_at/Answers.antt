@@ -40,7 +40,7 @@ returns-in_err-share-clause-step g c =
 pub pin-requires : goal.pin-requires
 pin-requires g c =
     let room = has_room c.in-Ok.ensures.node.entry c.self.invariant.lawful c.self.invariant.pins_above c.if-pins-self.false in
-    record { place = ((entry_of c.in-Ok.found.node.now).stamp, c.in-Ok.ensures.node.entry.at); pins = c.in-Ok.ensures.node.pins; room = omega (arith, room) }
+    record { place = ((entry_of c.in-Ok.found.node.now).stamp, c.in-Ok.ensures.node.entry.at); link = c.in-Ok.ensures.link; pins = c.in-Ok.ensures.node.pins; room = omega (arith, room) }
 
 found : (g : _) (c : After-pin g) → Hits g.K.PartialEq.eq (cache_with c.self.inside.capacity c.self.inside.most_pins c.self.inside.next c.self.inside.table) c.args.key.now (entry_of c.in-Ok.found.node.now).stamp c.in-Ready.value [] (cache_with c.self.inside.capacity c.self.inside.most_pins c.self.inside.next c.pin.new.self)
 found g c =

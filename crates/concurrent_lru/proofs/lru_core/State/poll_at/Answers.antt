@@ -49,8 +49,8 @@ returns-in_err-share-in-Ready-clause-step g c =
     polled_memory g.M.Sharing.seen g.K.PartialEq.eq c.args.self.now.cache (ask.poll c.args.spot.now.stamp) c.from_residual.result _ c.from_residual.ensures.1 refl
     (h, v, subst (λ k. Holds k c.args.spot.now.stamp h (ready v)) (ap (λ x. x.cache) c.self.view_is) here)
 
-pub set_phase-requires : goal.set_phase-requires
-set_phase-requires g c = held_place c.in-Some.ensures.node.entry c.if-node-eq0.false
+pub set_phase-requires-clause-held : goal.set_phase-requires-clause-held
+set_phase-requires-clause-held g c = held_place c.in-Some.ensures.node.entry c.if-node-eq0.false
 
 takes : (g : _) (c : After-set_phase g) → ChangesPhase g.K.PartialEq.eq (cache_with c.self.inside.capacity c.self.inside.most_pins c.self.inside.next c.self.inside.table) c.args.spot.now.stamp untaken making [] (cache_with c.self.inside.capacity c.self.inside.most_pins c.self.inside.next c.set_phase.new.self)
 takes g c = changes_phase g.K.PartialEq.eq c.self.inside.capacity c.self.inside.most_pins c.self.inside.next c.in-Some.ensures.node.entry c.set_phase.new.self c.args.spot.now.stamp untaken making c.in-Some.ensures.found c.if-node-eq0.false (ap phase_of c.in-Untaken.is) c.set_phase.ensures

@@ -16,8 +16,8 @@ returns-in_default-clause-step g c = (λ h holds. c.in_default.ensures.found h.k
 pub returns-in_default-phase-clause-step : goal.returns-in_default-phase-clause-step
 returns-in_default-phase-clause-step g c = (not_in_phase c.in-Some.ensures.node.entry c.self.invariant.lawful making (ap (λ x. x.cache) c.self.view_is) c.args.spot.now.stamp c.in-Some.ensures.found (λ e. c.in_default-phase.not-Making (phase_making _ e)), refl)
 
-pub set_phase-requires : goal.set_phase-requires
-set_phase-requires g c = let here = c.in-Some.ensures.node.entry in held_place here (unready_pinned here (unready_not_ready _ (inl (ap phase_of c.in-Making.is))))
+pub set_phase-requires-clause-held : goal.set_phase-requires-clause-held
+set_phase-requires-clause-held g c = let here = c.in-Some.ensures.node.entry in held_place here (unready_pinned here (unready_not_ready _ (inl (ap phase_of c.in-Making.is))))
 
 stores : (g : _) (c : After-set_phase g) → ChangesPhase g.K.PartialEq.eq (cache_with c.self.inside.capacity c.self.inside.most_pins c.self.inside.next c.self.inside.table) c.args.spot.now.stamp making (ready c.new.result) [] (cache_with c.self.inside.capacity c.self.inside.most_pins c.self.inside.next c.set_phase.new.self)
 stores g c = changes_phase g.K.PartialEq.eq c.self.inside.capacity c.self.inside.most_pins c.self.inside.next c.in-Some.ensures.node.entry c.set_phase.new.self c.args.spot.now.stamp making (ready c.new.result) c.in-Some.ensures.found (unready_pinned c.in-Some.ensures.node.entry (unready_not_ready _ (inl (ap phase_of c.in-Making.is)))) (ap phase_of c.in-Making.is) c.set_phase.ensures

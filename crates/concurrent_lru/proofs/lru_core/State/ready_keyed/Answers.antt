@@ -27,8 +27,8 @@ returns-then-ne-clause-step g c = λ own.
     let at = subst (λ s. ContainsEntry c.self.inside.table s node.key node.charge) (stamp_is c.in-Some.ensures.node.entry c.args.spot.now.stamp c.in-Some.ensures.found) (has_entry c.in-Some.ensures.node.entry) in
     absurd (other_key_at g.K.PartialEq.eq (cache_with c.self.inside.capacity c.self.inside.most_pins c.self.inside.next c.self.inside.table) c.args.self.now.cache c.args.spot.now.stamp node.key c.args.key.now (ap (λ x. x.cache) c.self.view_is) c.self.invariant.lawful (node.charge, at) (not-true _ (sym c.if-ne.ensures)) own)
 
-pub set_phase-requires : goal.set_phase-requires
-set_phase-requires g c = let here = c.in-Some.ensures.node.entry in held_place here (unready_pinned here (unready_not_ready _ (inl (ap phase_of c.in-Making.is))))
+pub set_phase-requires-clause-held : goal.set_phase-requires-clause-held
+set_phase-requires-clause-held g c = let here = c.in-Some.ensures.node.entry in held_place here (unready_pinned here (unready_not_ready _ (inl (ap phase_of c.in-Making.is))))
 
 pub returns-clause-keyed : goal.returns-clause-keyed
 returns-clause-keyed g c =

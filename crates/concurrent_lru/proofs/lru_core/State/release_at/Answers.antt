@@ -37,8 +37,8 @@ returns-then-pins-gt1-clause-step g c = inl (c.in-Ready.field-0, left_seen (ap (
 pub returns-then-pins-gt1-clause-lawful : goal.returns-then-pins-gt1-clause-lawful
 returns-then-pins-gt1-clause-lawful g c = leaves_lawful _ _ _ _ _ _ _ c.self.invariant.lawful (unpinned g c)
 
-pub make_idle-requires : goal.make_idle-requires
-make_idle-requires g c = ready_place c.in-Some.ensures.node.entry c.in-Ready.field-0 (ap phase_of c.in-Ready.is) c.if-pins-eq0.false c.if-detached.false
+pub make_idle-requires-clause-ready : goal.make_idle-requires-clause-ready
+make_idle-requires-clause-ready g c = ready_place c.in-Some.ensures.node.entry c.in-Ready.field-0 (ap phase_of c.in-Ready.is) c.if-pins-eq0.false c.if-detached.false
 
 one : (n : ℕ) → (n ≡ 0 → ⊥) → (1 < n → ⊥) → n ≡ 1
 one n some few = omega arith

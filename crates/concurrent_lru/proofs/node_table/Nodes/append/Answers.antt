@@ -4,7 +4,7 @@ use Rattle.concurrent_lru.specs.SlotTable.{Omits, nodes_of, idle_of}
 use Rattle.concurrent_lru.proofs.Nodes.Listings.{looked_keeps}
 use Rattle.concurrent_lru.proofs.Nodes.NodeWrites.{only_looked, then_writes}
 use Rattle.concurrent_lru.proofs.Nodes.SlotViews.{present, idle_there, whole_kept}
-use Rattle.concurrent_lru.proofs.Nodes.ShownChanges.{shown_relinked}
+use Rattle.concurrent_lru.proofs.Nodes.ShownChanges.{looked_once, shown_relinked}
 use Rattle.concurrent_lru.proofs.Order.Appending.{table_looked}
 use Rattle.concurrent_lru.proofs.node_table.Nodes.append.Goals as goal
 
@@ -28,7 +28,7 @@ returns g c =
     (c.push.ensures.idle ∙ ap (λ s. idle_of (record o { slots = s }) ++ c.place.inside.slot ∷ []) c.look-pointer.ensures.rest)
     (then_writes o.slots t q.slots (only_looked o.slots t c.look-pointer.ensures.rest) c.push.ensures.rest)
     (looked_keeps o.slots t q.slots.memory.cells c.look-pointer.ensures.rest c.push.ensures.listings)
-    (ap (λ w. w.count) c.push.ensures.looks ∙ c.look-pointer.ensures.looks) c.tick.ensures
+    c.self.invariant.linked.tied c.push.ensures.linked.tied (looked_once o _ _ _ c.self.view_is (ap (λ w. w.count) c.push.ensures.looks ∙ c.look-pointer.ensures.looks)) c.tick.ensures
 
 pub invariant_of-self : goal.invariant_of-self
 invariant_of-self g c =

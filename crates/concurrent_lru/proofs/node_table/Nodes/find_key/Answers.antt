@@ -3,11 +3,11 @@ use Rattle.std.proofs.lemmas.Bool.{cases_eq, true≢false}
 use Rattle.concurrent_lru.specs.Cells.{cell_at}
 use Rattle.concurrent_lru.specs.Listing.{listing}
 use Rattle.concurrent_lru.specs.NodeTable.{entry_of}
-use Rattle.concurrent_lru.specs.Probing.Entries.{Holds}
+use Rattle.concurrent_lru.specs.Probing.Entries.{Holds, entry}
 use Rattle.concurrent_lru.specs.Probing.OpenTable.{mark_of, HasMark}
 use Rattle.concurrent_lru.specs.Probing.Probes.{marks_of, mark_at}
-use Rattle.concurrent_lru.proofs.Nodes.Listings.{cell_listed, only_candidate, candidate_there, entry_cell, hash_cell}
-use Rattle.concurrent_lru.proofs.Nodes.SlotViews.{node_had, hash_had}
+use Rattle.concurrent_lru.proofs.Nodes.Listings.{candidate_leads, cell_listed, only_candidate, candidate_there, entry_cell, hash_cell}
+use Rattle.concurrent_lru.proofs.Nodes.SlotViews.{leads_link, node_had, hash_had}
 use Rattle.concurrent_lru.proofs.Nodes.ShownChanges.{shown_found}
 use Rattle.concurrent_lru.proofs.Probing.Contents.Slots.{holds_mark}
 use Rattle.concurrent_lru.proofs.Probing.Marks.{mark_filled}
@@ -63,3 +63,11 @@ returns-clause-found g c = λ p e at found hash.
       | true ↦ λ is. absurd (none_past s.by_hash (mark_of c.args.hash) (mark_filled c.args.hash) c.walk.at h.0 c.in_default.not-Item (c.walk.invariant.ahead h.0 p d cell.1 hashed is h.1))
       | false ↦ λ other. refl
     ] refl)
+
+pub item-requires : goal.item-requires
+item-requires g c = item_filled c.self.inside.order.slots.by_hash (mark_of c.args.hash) (mark_filled c.args.hash) c.walk.at c.in-Item.cursor c.in-Item.is c.walk.invariant.mark
+
+pub returns-then-eq-clause-link : goal.returns-then-eq-clause-link
+returns-then-eq-clause-link g c =
+    let o = c.self.inside.order in let s = o.slots in
+    leads_link o _ _ c.self.view_is _ _ refl c.item.result.ptr (candidate_leads s c.in-Item.cursor _ c.candidate-node.result.now (entry (mark_at (marks_of s.by_hash) c.in-Item.cursor) c.item.result) c.self.invariant.linked.tied c.candidate-node.ensures c.item.ensures refl)

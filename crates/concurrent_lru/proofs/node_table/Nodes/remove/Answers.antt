@@ -3,7 +3,7 @@ use Rattle.concurrent_lru.specs.SlotTable.{nodes_of}
 use Rattle.concurrent_lru.proofs.Nodes.Listings.{looked_keeps}
 use Rattle.concurrent_lru.proofs.Nodes.NodeWrites.{only_looked, then_writes}
 use Rattle.concurrent_lru.proofs.Nodes.SlotViews.{idle_there, whole_kept}
-use Rattle.concurrent_lru.proofs.Nodes.ShownChanges.{shown_relinked}
+use Rattle.concurrent_lru.proofs.Nodes.ShownChanges.{looked_once, shown_relinked}
 use Rattle.concurrent_lru.proofs.Order.TakingOut.{left_idle, looked_up, present_in}
 use Rattle.concurrent_lru.proofs.node_table.Nodes.remove.Goals as goal
 
@@ -22,7 +22,7 @@ returns g c =
     (left_idle o t q c.look-pointer.result c.look-pointer.ensures.rest c.look-pointer.ensures.link c.cut.ensures.idle)
     (then_writes o.slots t q.slots (only_looked o.slots t c.look-pointer.ensures.rest) c.cut.ensures.rest)
     (looked_keeps o.slots t q.slots.memory.cells c.look-pointer.ensures.rest c.cut.ensures.listings)
-    (ap (λ w. w.count) c.cut.ensures.looks ∙ c.look-pointer.ensures.looks) c.tick.ensures
+    c.self.invariant.linked.tied c.cut.ensures.linked.tied (looked_once o _ _ _ c.self.view_is (ap (λ w. w.count) c.cut.ensures.looks ∙ c.look-pointer.ensures.looks)) c.tick.ensures
 
 pub invariant_of-self : goal.invariant_of-self
 invariant_of-self g c =

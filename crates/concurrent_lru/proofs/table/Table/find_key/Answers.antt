@@ -1,5 +1,5 @@
 use Rattle.std.proofs.Common.{Some, None, ◌∙◌, ap, subst}
-use Rattle.concurrent_lru.specs.Entries.{ContainsNoKey, GetsNodeAt, IsPlaceOfKey}
+use Rattle.concurrent_lru.specs.Entries.{ContainsNoKey, GetsNodeAt, LeadsAt, IsPlaceOfKey}
 use Rattle.concurrent_lru.specs.KeyHashes.{key_hash}
 use Rattle.concurrent_lru.proofs.Entries.FoundNodes.{found_key}
 use Rattle.concurrent_lru.proofs.Entries.HashesOfNodes.{alike_hashes}
@@ -18,3 +18,6 @@ pub returns-in-None-clause-absent : goal.returns-in-None-clause-absent
 returns-in-None-clause-absent g c = subst (λ t. ContainsNoKey g.K.PartialEq.eq t c.args.key.now) c.self.view_is
     (found_key c.self.invariant.stored (alike_hashes c.self.inside.seed g.K.Hash.hash_input g.met.K.Hash.respects_eq) c.of-hash.result.number c.args.key.now None
     (c.of-hash.ensures.hash ∙ ap (λ s. key_hash s g.K.Hash.hash_input c.args.key.now) c.of-hash.ensures.seed) c.in-None.ensures.found tt)
+
+pub returns-in-Some-clause-link : goal.returns-in-Some-clause-link
+returns-in-Some-clause-link g c = let f = c.in-Some.found in subst (λ t. LeadsAt t f.link f.place) c.self.view_is c.in-Some.ensures.link

@@ -1,6 +1,6 @@
 use Rattle.std.proofs.Common.{◌≡◌, None, Some, ap, ◌∙◌, subst, is_some}
 use Rattle.std.specs.FinMap.{get}
-use Rattle.concurrent_lru.specs.Entries.{ContainsNoStamp, GetsNodeAt}
+use Rattle.concurrent_lru.specs.Entries.{ContainsNoStamp, GetsNodeAt, LeadsAt}
 use Rattle.concurrent_lru.proofs.Entries.FoundNodes.{found_stamp, stamp_at}
 use Rattle.concurrent_lru.proofs.Entries.NodeAtPlace.{has_node, node_got}
 use Rattle.concurrent_lru.proofs.table.Table.find_stamp_near.Goals as goal
@@ -27,3 +27,9 @@ returns-in-Some-clause-node g c = let f = c.found-in-Some.result in subst (λ t.
 
 pub returns-in-None-clause-found : goal.returns-in-None-clause-found
 returns-in-None-clause-found g c = subst (λ t. ContainsNoStamp t c.args.stamp) c.self.view_is (found_stamp c.self.invariant.stored c.args.stamp None c.in-None.ensures.mapped c.in-None.ensures.seen)
+
+pub returns-then-has_stamp-clause-link : goal.returns-then-has_stamp-clause-link
+returns-then-has_stamp-clause-link g c = let f = c.found.result in subst (λ t. LeadsAt t f.link f.place) c.self.view_is c.found.ensures.link
+
+pub returns-in-Some-clause-link : goal.returns-in-Some-clause-link
+returns-in-Some-clause-link g c = let f = c.found-in-Some.result in subst (λ t. LeadsAt t f.link f.place) c.self.view_is c.found-in-Some.ensures.link

@@ -3,7 +3,7 @@ use Rattle.std.specs.FinMap.{get}
 use Rattle.std.proofs.lemmas.Bool.{ne_eqb}
 use Rattle.concurrent_lru.specs.Cache.{charges}
 use Rattle.concurrent_lru.specs.NodeTable.{update_at, entry_with_pins}
-use Rattle.concurrent_lru.specs.Entries.{ContainsPlace, Rewrites, RevivesAt, held_with_pins, pins_at}
+use Rattle.concurrent_lru.specs.Entries.{ContainsPlace, LeadsAt, Rewrites, RevivesAt, held_with_pins, pins_at}
 use Rattle.concurrent_lru.specs.Indexes.{entries_of}
 use Rattle.concurrent_lru.proofs.Steps.BeginOfAbsent.{as_idle-ready}
 use Rattle.concurrent_lru.proofs.Steps.Release.{pinned_writes}
@@ -45,7 +45,7 @@ invariant_of-self g c =
     let held = ne_eqb n.0.pins 0 (λ none. some (sym n.2 ∙ none)) in
     let writes = pinned_writes c.self.inside.nodes c.pin-charge.new.self c.args.place (c.args.pins + 1) n.0 n.1 c.pin-charge.ensures.nodes in
     let left = c.pin-charge.ensures.held some in
-    let changed = entries_written c.self.invariant.stored writes refl refl left.0 held (not_zero (c.args.pins + 1) (one_more c.args.pins)) left.1 in
+    let changed = entries_written c.self.invariant.stored writes refl refl c.pin-charge.ensures.links left.0 held (not_zero (c.args.pins + 1) (one_more c.args.pins)) left.1 in
     record {
       stored = stored_written c.self.invariant.stored writes refl refl c.pin-charge.ensures.hashes left.0 held (not_zero (c.args.pins + 1) (one_more c.args.pins));
       sums = c.self.invariant.sums ∙ sym (sum_written (entries_of c.self.inside.nodes) (entries_of c.pin-charge.new.self) n.0.stamp _ _ (ap (λ t. t.idle) changed) (ap (λ t. t.held) changed) (held_found c.self.invariant.stored c.args.place n.0 n.1 held) refl);
@@ -66,7 +66,7 @@ returns-then-pins-gt0-clause-held g c some =
       entry = _;
       at = place_at c.self.invariant.stored c.args.place n.0 n.1;
       held = held_found c.self.invariant.stored c.args.place n.0 n.1 held;
-      changed = entries_written c.self.invariant.stored writes refl refl left.0 held (not_zero (c.args.pins + 1) (one_more c.args.pins)) left.1;
+      changed = entries_written c.self.invariant.stored writes refl refl c.pin-charge.ensures.links left.0 held (not_zero (c.args.pins + 1) (one_more c.args.pins)) left.1;
     })
 
 -- one that had none was idle, and is held by one pin
@@ -88,7 +88,7 @@ invariant_of-self-2 g c =
     let l = idle_like c.self.invariant.stored c.args.place n.0 n.1 m in
     let writes = pinned_writes c.self.inside.nodes c.pin-charge.new.self c.args.place 1 n.0 n.1 (first g a none c.pin-charge.ensures.nodes) in
     let left = c.pin-charge.ensures.revived none in
-    let changed = entries_revived_by_one c.self.invariant.stored writes l.0 left.0 l.1 l.2 left.1 in
+    let changed = entries_revived_by_one c.self.invariant.stored writes l.0 c.pin-charge.ensures.links left.0 l.1 l.2 left.1 in
     record {
       stored = stored_revived c.self.invariant.stored writes refl refl c.pin-charge.ensures.hashes left.0 refl;
       sums = c.self.invariant.sums ∙ sym (sum_revived (entries_of c.self.inside.nodes) (entries_of c.pin-charge.new.self) n.0.stamp (record { stamp = n.0.stamp; key = n.0.key; charge = n.0.charge; value = l.0 }) _
@@ -109,8 +109,11 @@ returns-clause-revived g c none =
       entry = record { stamp = n.0.stamp; key = n.0.key; charge = n.0.charge; value = l.0 };
       at = place_at c.self.invariant.stored c.args.place n.0 n.1;
       idle = (idle_found c.self.invariant.stored c.args.place n.0 n.1 m).1 ∙ as_idle-ready n.0 l.0 l.2;
-      changed = entries_revived_by_one c.self.invariant.stored (pinned_writes c.self.inside.nodes c.pin-charge.new.self c.args.place 1 n.0 n.1 (first g a none c.pin-charge.ensures.nodes)) l.0 left.0 l.1 l.2 left.1;
+      changed = entries_revived_by_one c.self.invariant.stored (pinned_writes c.self.inside.nodes c.pin-charge.new.self c.args.place 1 n.0 n.1 (first g a none c.pin-charge.ensures.nodes)) l.0 c.pin-charge.ensures.links left.0 l.1 l.2 left.1;
     })
 
 pub returns-clause-held : goal.returns-clause-held
 returns-clause-held g c some = absurd (some (no_pins c.args.pins c.if-pins-gt0.false))
+
+pub pin-charge-requires-clause-link : goal.pin-charge-requires-clause-link
+pin-charge-requires-clause-link g c = subst (λ t. LeadsAt t c.args.link c.args.place) (sym c.self.view_is) c.requires.link

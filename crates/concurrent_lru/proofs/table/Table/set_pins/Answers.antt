@@ -1,6 +1,6 @@
 use Rattle.std.proofs.Common.{refl, sym, ap, ◌∙◌, subst}
 use Rattle.concurrent_lru.specs.Cache.{charges}
-use Rattle.concurrent_lru.specs.Entries.{ContainsHeldAt, Rewrites, held_with_pins}
+use Rattle.concurrent_lru.specs.Entries.{ContainsHeldAt, LeadsAt, Rewrites, held_with_pins}
 use Rattle.concurrent_lru.specs.Indexes.{entries_of}
 use Rattle.concurrent_lru.proofs.Entries.NodeAtPlace.{has_node, some_node, held_node, held_found, place_at}
 use Rattle.concurrent_lru.proofs.Steps.Release.{pinned_writes}
@@ -8,17 +8,17 @@ use Rattle.concurrent_lru.proofs.Entries.SetPinsAndRest.{stored_written, entries
 use Rattle.concurrent_lru.proofs.Entries.SumsOfCharges.{sum_written}
 use Rattle.concurrent_lru.proofs.table.Table.set_pins.Goals as goal
 
-pub set_pins_near-requires : goal.set_pins_near-requires
-set_pins_near-requires g c = let h = subst (λ t. ContainsHeldAt t c.args.place) (sym c.self.view_is) c.requires.held in has_node c.self.invariant.stored c.args.place (h.0, h.1)
+pub write_pins-requires-clause-within : goal.write_pins-requires-clause-within
+write_pins-requires-clause-within g c = let h = subst (λ t. ContainsHeldAt t c.args.place) (sym c.self.view_is) c.requires.held in has_node c.self.invariant.stored c.args.place (h.0, h.1)
 
 pub invariant_of-self : goal.invariant_of-self
 invariant_of-self g c =
     let h = subst (λ t. ContainsHeldAt t c.args.place) (sym c.self.view_is) c.requires.held in
     let n = some_node c.self.invariant.stored c.args.place (h.0, h.1) in
-    let changed = entries_written c.self.invariant.stored (pinned_writes c.self.inside.nodes c.set_pins_near.new.self c.args.place c.args.pins n.0 n.1 c.set_pins_near.ensures.nodes) refl refl c.set_pins_near.ensures.idle (held_node c.self.invariant.stored c.args.place n.0 h n.1) (not_zero c.args.pins c.requires.some) c.set_pins_near.ensures.work in
+    let changed = entries_written c.self.invariant.stored (pinned_writes c.self.inside.nodes c.write_pins.new.self c.args.place c.args.pins n.0 n.1 c.write_pins.ensures.nodes) refl refl c.write_pins.ensures.links c.write_pins.ensures.idle (held_node c.self.invariant.stored c.args.place n.0 h n.1) (not_zero c.args.pins c.requires.some) c.write_pins.ensures.work in
     record {
-      stored = stored_written c.self.invariant.stored (pinned_writes c.self.inside.nodes c.set_pins_near.new.self c.args.place c.args.pins n.0 n.1 c.set_pins_near.ensures.nodes) refl refl c.set_pins_near.ensures.hashes c.set_pins_near.ensures.idle (held_node c.self.invariant.stored c.args.place n.0 h n.1) (not_zero c.args.pins c.requires.some);
-      sums = c.self.invariant.sums ∙ sym (sum_written (entries_of c.self.inside.nodes) (entries_of c.set_pins_near.new.self) n.0.stamp _ _ (ap (λ t. t.idle) changed) (ap (λ t. t.held) changed) (held_found c.self.invariant.stored c.args.place n.0 n.1 (held_node c.self.invariant.stored c.args.place n.0 h n.1)) refl);
+      stored = stored_written c.self.invariant.stored (pinned_writes c.self.inside.nodes c.write_pins.new.self c.args.place c.args.pins n.0 n.1 c.write_pins.ensures.nodes) refl refl c.write_pins.ensures.hashes c.write_pins.ensures.idle (held_node c.self.invariant.stored c.args.place n.0 h n.1) (not_zero c.args.pins c.requires.some);
+      sums = c.self.invariant.sums ∙ sym (sum_written (entries_of c.self.inside.nodes) (entries_of c.write_pins.new.self) n.0.stamp _ _ (ap (λ t. t.idle) changed) (ap (λ t. t.held) changed) (held_found c.self.invariant.stored c.args.place n.0 n.1 (held_node c.self.invariant.stored c.args.place n.0 h n.1)) refl);
       rests = c.self.invariant.rests ∙ ap (λ t. charges t.idle) (sym changed);
     }
 
@@ -26,10 +26,13 @@ pub returns : goal.returns
 returns g c =
     let h = subst (λ t. ContainsHeldAt t c.args.place) (sym c.self.view_is) c.requires.held in
     let n = some_node c.self.invariant.stored c.args.place (h.0, h.1) in
-    subst (λ t. Rewrites (held_with_pins c.args.pins) t c.args.place (entries_of c.set_pins_near.new.self)) c.self.view_is (record {
+    subst (λ t. Rewrites (held_with_pins c.args.pins) t c.args.place (entries_of c.write_pins.new.self)) c.self.view_is (record {
       stamp = n.0.stamp;
       entry = _;
       at = place_at c.self.invariant.stored c.args.place n.0 n.1;
       held = held_found c.self.invariant.stored c.args.place n.0 n.1 (held_node c.self.invariant.stored c.args.place n.0 h n.1);
-      changed = entries_written c.self.invariant.stored (pinned_writes c.self.inside.nodes c.set_pins_near.new.self c.args.place c.args.pins n.0 n.1 c.set_pins_near.ensures.nodes) refl refl c.set_pins_near.ensures.idle (held_node c.self.invariant.stored c.args.place n.0 h n.1) (not_zero c.args.pins c.requires.some) c.set_pins_near.ensures.work;
+      changed = entries_written c.self.invariant.stored (pinned_writes c.self.inside.nodes c.write_pins.new.self c.args.place c.args.pins n.0 n.1 c.write_pins.ensures.nodes) refl refl c.write_pins.ensures.links c.write_pins.ensures.idle (held_node c.self.invariant.stored c.args.place n.0 h n.1) (not_zero c.args.pins c.requires.some) c.write_pins.ensures.work;
     })
+
+pub write_pins-requires-clause-link : goal.write_pins-requires-clause-link
+write_pins-requires-clause-link g c = subst (λ t. LeadsAt t c.args.link c.args.place) (sym c.self.view_is) c.requires.link
