@@ -3,6 +3,7 @@ ghost use Rattle.std.specs.Prelude.{◌<◌};
 
 use crate::assertions::assert_equal_at;
 use crate::caches::{Clock, clock_with_shards};
+use crate::clock::pasts::value_of;
 use std::alloc::Global;
 use std::sync::Wait;
 
@@ -14,20 +15,16 @@ struct Found {
     len: usize,
 }
 
-fn value_of<R: Wait>(cache: &Clock<u64, R>, key: u64) -> Option<u64> {
-    let handle = cache.find(&key).ok()??;
-    Some(*handle)
-}
-
 fn what_is_found<R: Wait>(cache: &Clock<u64, R>) -> Found {
     Found {
-        values: [1, 2, 3].map(|key| value_of(cache, key)),
+        values: [1, 2, 3].map(|key| value_of(cache.find(&key))),
         has_entry: [1, 2, 3].map(|key| cache.contains(&key)),
         len: cache.len(),
     }
 }
 
-fn invalidates<R: Wait>(cache: &Clock<u64, R>, key: u64, is_since: bool) {
+// Invalidates a key, perhaps with a new past.
+pub(crate) fn invalidates<R: Wait>(cache: &Clock<u64, R>, key: u64, is_since: bool) {
     if is_since {
         cache.invalidate_since(&key, &mut cache.past(&key));
     } else {

@@ -4,6 +4,7 @@ ghost use Rattle.std.specs.Prelude.{◌<◌};
 
 use crate::assertions::{assert_equal, assert_equal_at};
 use crate::caches::{Clock, clock_with_shards};
+use crate::clock::invalidations::invalidates;
 use lru_clock::clock::{Cache, Refusal};
 use lru_support::hashers::ByOwnNumber;
 use std::alloc::Global;
@@ -11,7 +12,7 @@ use std::hash::RandomState;
 use std::sync::Wait;
 
 // Makes a key's value as ten times the key, or finds it.
-fn made<R: Wait>(cache: &Clock<u64, R>, key: u64, charge: u64) -> Result<u64, Refusal>
+pub(crate) fn made<R: Wait>(cache: &Clock<u64, R>, key: u64, charge: u64) -> Result<u64, Refusal>
     requires { 0 < charge }
 {
     let handle = cache.get_or_init(key, charge, |key| key.wrapping_mul(10))?;
@@ -177,11 +178,7 @@ fn invalidates_in_a_making<R: Wait>(
 ) -> Option<([u64; 2], bool, [u128; 2])> {
     let first = cache
         .get_or_init(1, 3, |key| {
-            if is_since {
-                cache.invalidate_since(key, &mut cache.past(key));
-            } else {
-                cache.invalidate(key);
-            }
+            invalidates(cache, *key, is_since);
             5
         })
         .ok()?;

@@ -7,10 +7,10 @@ use lru_clock::clock::{Begun, Refusal};
 use std::alloc::Global;
 use std::sync::Wait;
 
-// What is told of a making: whether it could begin, whether another one could meanwhile, what a
-// `find` found meanwhile, the value that its maker got, what a `begin` found afterwards, and the
-// total.
-type Told = (bool, bool, bool, u64, Option<u64>, u128);
+// What is told of a making: whether `try_begin` said meanwhile that the value is being made, whether
+// a `find` found it meanwhile, the value that its maker got, what a `begin` found afterwards, and
+// the total.
+type Told = (bool, bool, u64, Option<u64>, u128);
 
 // Begins the making of a key, with the charge 2, and ends it with the value 7, perhaps with the
 // charge 5.
@@ -29,14 +29,7 @@ fn makes<R: Wait>(cache: &Clock<u64, R>, is_recharged: bool) -> Option<Told> {
         Begun::Hit(handle) => Some(*handle),
         Begun::Make(_) => None,
     };
-    Some((
-        true,
-        is_busy,
-        is_found,
-        *handle,
-        found,
-        cache.total_charge(),
-    ))
+    Some((is_busy, is_found, *handle, found, cache.total_charge()))
 }
 
 // Does this in a new cache.
@@ -49,7 +42,7 @@ fn makes_in_new<R: Wait + Drop>(alloc: Global, rt: R, is_recharged: bool) -> Opt
 fn a_making_begins_and_ends_by_calls(rt: HostRuntime) {
     for (is_recharged, total) in [(false, 2u128), (true, 5)] {
         let told = makes_in_new(rt.alloc(), &rt, is_recharged);
-        assert_equal(&rt, told, Some((true, true, false, 7, Some(7), total)));
+        assert_equal(&rt, told, Some((true, false, 7, Some(7), total)));
     }
 }
 

@@ -18,7 +18,10 @@ fn numbers<R: Wait + Drop>(rt: R, alloc: Global, capacity: u64) -> Result<Number
     Cache::with_shards_hasher(alloc, rt, capacity, 1, ByOwnNumber)
 }
 
-fn value_of<R: Wait>(found: Result<Option<CacheHandle<'_, u64, u64, R>>, Refusal>) -> Option<u64> {
+// Returns the value that a call found, and drops its handle.
+pub(crate) fn value_of<R: Wait>(
+    found: Result<Option<CacheHandle<'_, u64, u64, R>>, Refusal>,
+) -> Option<u64> {
     match found {
         Ok(Some(handle)) => Some(*handle),
         _ => None,

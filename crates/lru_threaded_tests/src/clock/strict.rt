@@ -4,6 +4,7 @@ ghost use Rattle.std.specs.Prelude.{◌<◌};
 
 use crate::assertions::assert_equal;
 use crate::caches::{Clock, clock_with_shards};
+use crate::clock::limits::made;
 use lru_clock::clock::{GetError, Refusal};
 use rand_core::{Rng, SeedableRng};
 use rand_xoshiro::Xoshiro256PlusPlus;
@@ -38,14 +39,6 @@ fn inserted<R: Wait>(
     requires { 0 < charge }
 {
     let handle = cache.insert(&key, charge, value)?;
-    Ok(*handle)
-}
-
-// Makes a key's value as ten times the key, or finds it.
-fn made<R: Wait>(cache: &Clock<u64, R>, key: u64, charge: u64) -> Result<u64, Refusal>
-    requires { 0 < charge }
-{
-    let handle = cache.get_or_init(key, charge, |key| key.wrapping_mul(10))?;
     Ok(*handle)
 }
 

@@ -3,6 +3,7 @@ ghost use Rattle.std.specs.Prelude.{◌<◌};
 
 use crate::assertions::assert_equal_at;
 use crate::caches::{Clock, clock_with_shards};
+use crate::clock::invalidations::invalidates;
 use crate::flags::{meets, pause, raise};
 use std::alloc::Global;
 use std::sync::Wait;
@@ -31,12 +32,8 @@ struct Meeting {
 
 fn makes_change<R: Wait>(cache: &Clock<u64, R>, change: Change) {
     match change {
-        Change::Invalidate => {
-            cache.invalidate(&1);
-        }
-        Change::InvalidateSince => {
-            cache.invalidate_since(&1, &mut cache.past(&1));
-        }
+        Change::Invalidate => invalidates(cache, 1, false),
+        Change::InvalidateSince => invalidates(cache, 1, true),
         Change::Insert => drop(cache.insert(&1, 1, 7)),
     }
 }
