@@ -1,5 +1,5 @@
 -- The makings stay apart as one is added, removed or invalidated.
-use Rattle.std.proofs.Common.{◌≡◌, ℕ, zero, suc, ◌+◌, ◌<◌, ◌||◌, ◌&&◌, not, Bool, true, false, List, [], ◌∷◌, ◌++◌, Some, MatchBool, take, drop, set, refl, ap, sym, ◌∙◌, subst, arith, nat_eq}
+use Rattle.std.proofs.Common.{◌≡◌, ℕ, zero, suc, ◌+◌, ◌<◌, ◌≤◌, ◌||◌, ◌&&◌, not, Bool, true, false, List, [], ◌∷◌, ◌++◌, Some, MatchBool, take, drop, set, refl, ap, sym, ◌∙◌, subst, arith, nat_eq}
 use Rattle.std.specs.Prelude.{slice_get}
 use Rattle.std.specs.Cmp.{IsEquivalence}
 use Rattle.std.specs.List.{AllByRecursion, IsDistinct, list_any, remove}
@@ -102,6 +102,14 @@ module _ {K : Type 0} (E : K → K → Bool) where
   -- a number that is above all of them
   pub fresh : (n : ℕ) (ms : List (Making K)) → AreApart E n ms → has_number n ms ≡ false
   fresh n ms apart = none_of (is_numbered n) ms (all_kept (λ m. m.number < n) (λ m. is_numbered n m ≡ false) (λ m lt. below_differs m.number n lt) ms apart.numbered)
+
+  -- a greater number is above all of them, too
+  pub apart_below : (n m : ℕ) (ms : List (Making K)) → n ≤ m → AreApart E n ms → AreApart E m ms
+  apart_below n m ms le apart = record {
+    numbered = all_kept (λ l. l.number < n) (λ l. l.number < m) (λ l lt. omega (arith, lt, le)) ms apart.numbered;
+    numbers = apart.numbers;
+    keys = apart.keys;
+  }
 
   -- a making of a key that has none is added
   pub apart_with : (n : ℕ) (ms : List (Making K)) (k : K) → list_any (is_of E k) ms ≡ false → AreApart E n ms → AreApart E (n + 1) (ms ++ making k n false ∷ [])

@@ -14,7 +14,7 @@ use prog.Atomic.{either}
 use Rattle.logbook.specs.Pages.{Book, Named, Cell, cell, keeps, gives, adds, nib, no_nib, may_write, step, Moves, Goes}
 use Rattle.lru_clock.specs.declared.history.Event.{Event}
 use Rattle.lru_clock.specs.declared.history.Entry.{Entry}
-use Rattle.lru_clock.specs.History.{turns, of_place, entry_after, entry_at, entry, event}
+use Rattle.lru_clock.specs.History.{turns, of_place, entry_after, entry_at, entry, coming}
 use Rattle.lru_clock.specs.History.{ComesTo, HasCome}
 use Rattle.lru_clock.specs.Arrivals.{Arrives}
 use Rattle.lru_clock.specs.declared.history.Arrival.{Arrival}
@@ -294,28 +294,33 @@ module _ {K V : Type 0} where
   pub whole : (p : ℕ) (xs before zs : List (Event K V)) (e : Event K V) → e.place ≡ p → turns p xs ≡ turns p (before ++ e ∷ []) → IsPrefix xs zs → IsPrefix (before ++ e ∷ []) zs → IsPrefix (before ++ e ∷ []) xs
   whole p xs before zs e at count one other = whole_either p xs before e at count (prefix_either xs (before ++ e ∷ []) zs one other)
 
-  -- an entry that came after the first prefix is there in one in which its slot's counter has its
-  -- number
-  pub has_come : (w : Named) (a : Arrival K V) (e : Entry K V) (since seen zs : List (Event K V)) (number : ℕ) → Arrives w a e → turns 1 since ≤ number → number < a.number → turns w.key seen ≡ a.number
+  -- an entry whose making began after the first prefix is there in one in which its slot's counter
+  -- has its number
+  pub has_come : (w : Named) (a : Arrival K V) (age : ℕ) (e : Entry K V) (since seen zs : List (Event K V)) (number : ℕ) (at : Arrives w a age e) → turns 1 since ≤ number → number < at.ticket → turns w.key seen ≡ a.number
       → IsPrefix since zs → IsPrefix seen zs → IsPrefix a.log.log zs → HasCome w.key since e seen
-  has_come w a e since seen zs number at begun passed count one other last =
-      let came = event w.key at.skipped (Some e) in
+  has_come w a age e since seen zs number at begun passed count one other last =
+      let came = coming w.key at.skipped at.ticket e in
       let end : IsPrefix (at.before ++ came ∷ []) zs = subst (λ l. IsPrefix l zs) at.last last in
       let all : turns w.key seen ≡ turns w.key (at.before ++ came ∷ []) = count ∙ (sym at.count ∙ ap (turns w.key) at.last) in
       let whole : IsPrefix (at.before ++ came ∷ []) seen = whole w.key seen at.before zs came refl all other end in record {
         before = at.before;
-        later = fewer 1 since at.before zs one (prefix_trans at.before (at.before ++ came ∷ []) zs (came ∷ [], refl) end) (omega (arith, begun, passed, at.drawn));
         skipped = at.skipped;
+        ticket = at.ticket;
+        begun = record {
+          later = fewer 1 since at.before zs one (prefix_trans at.before (at.before ++ came ∷ []) zs (came ∷ [], refl) end) (omega (arith, begun, passed, at.begun, at.drawn));
+          after = omega (arith, begun, passed);
+          within = omega (arith, at.begun, at.drawn);
+        };
         came = whole;
         there = sym (longer_same w.key (at.before ++ came ∷ []) seen whole (sym all)) ∙ comes w.key at.before came refl;
       }
 
   -- two arrivals at one slot with one number are of one entry
-  pub one_arrival : (w : Named) (a b : Arrival K V) (e f : Entry K V) (zs : List (Event K V)) → Arrives w a e → Arrives w b f → a.number ≡ b.number → IsPrefix a.log.log zs → IsPrefix b.log.log zs → e ≡ f
-  one_arrival w a b e f zs at bt same one other =
+  pub one_arrival : (w : Named) (a b : Arrival K V) (n m : ℕ) (e f : Entry K V) (zs : List (Event K V)) → Arrives w a n e → Arrives w b m f → a.number ≡ b.number → IsPrefix a.log.log zs → IsPrefix b.log.log zs → e ≡ f
+  one_arrival w a b n m e f zs at bt same one other =
       let count : turns w.key a.log.log ≡ turns w.key b.log.log = at.count ∙ (same ∙ sym bt.count) in
-      let had : entry_at w.key a.log.log ≡ Some e = ap (entry_at w.key) at.last ∙ comes w.key at.before (event w.key at.skipped (Some e)) refl in
-      let has : entry_at w.key b.log.log ≡ Some f = ap (entry_at w.key) bt.last ∙ comes w.key bt.before (event w.key bt.skipped (Some f)) refl in
+      let had : entry_at w.key a.log.log ≡ Some e = ap (entry_at w.key) at.last ∙ comes w.key at.before (coming w.key at.skipped at.ticket e) refl in
+      let has : entry_at w.key b.log.log ≡ Some f = ap (entry_at w.key) bt.last ∙ comes w.key bt.before (coming w.key bt.skipped bt.ticket f) refl in
       cc (had, has, one_entry w.key a.log.log b.log.log count (prefix_either a.log.log b.log.log zs one other))
 
 -- a property of each item of a list still holds if an item that has it is added
@@ -349,8 +354,8 @@ of_tag f xs k (Some x) tag b each at names = same_book (f x.now) b (each k x.now
 
 module _ {K V : Type 0} where
   -- an entry with whose arrival a prefix ends came within it
-  pub comes_last : (w : Named) (a : Arrival K V) (e : Entry K V) (log : List (Event K V)) → log ≡ a.log.log → Arrives w a e → ComesTo w.key e log
-  comes_last w a e log same at = (at.before, at.skipped, ([], append-nil (at.before ++ event w.key at.skipped (Some e) ∷ []) ∙ (sym at.last ∙ sym same)))
+  pub comes_last : (w : Named) (a : Arrival K V) (age : ℕ) (e : Entry K V) (log : List (Event K V)) → log ≡ a.log.log → Arrives w a age e → ComesTo w.key e log
+  comes_last w a age e log same at = (at.before, at.skipped, at.ticket, ([], append-nil (at.before ++ coming w.key at.skipped at.ticket e ∷ []) ∙ (sym at.last ∙ sym same)))
 
   -- an entry of an equal key that came to a place
   pub arrived_with : (E : K → K → Bool) (p : ℕ) (k l : K) (v u : V) (log : List (Event K V)) → ComesTo p (entry l u) log → v ≡ u → E l k ≡ true → HasArrived E log k v
@@ -362,12 +367,12 @@ module _ {K V : Type 0} where
   }
 
   -- what a past says of an arrival, said of the entry
-  pub sees_if : (E : K → K → Bool) (w : Named) (a : Arrival K V) (past : Option (PastOf K V)) (k l : K) (v u : V) (book : Book) (log : List (Event K V)) → Arrives w a (entry l u) → v ≡ u → E l k ≡ true
+  pub sees_if : (E : K → K → Bool) (w : Named) (a : Arrival K V) (age : ℕ) (past : Option (PastOf K V)) (k l : K) (v u : V) (book : Book) (log : List (Event K V)) → Arrives w a age (entry l u) → v ≡ u → E l k ≡ true
       → IfSome past (λ (p : PastOf K V). book ≡ p.book) → IfSome past (λ (p : PastOf K V). IsPrefix p.seen log)
-      → IfSome past (λ (p : PastOf K V). (e : Entry K V) → Arrives w a e → HasCome w.key p.since e log)
+      → IfSome past (λ (p : PastOf K V). (e : Entry K V) → Arrives w a age e → HasCome w.key p.since e log)
       → IfSome past (λ (p : PastOf K V). Sees E p k v book log)
-  sees_if E w a None k l v u book log at same equal same_book later came = tt
-  sees_if E w a (Some p) k l v u book log at same equal same_book later came =
+  sees_if E w a age None k l v u book log at same equal same_book later came = tt
+  sees_if E w a age (Some p) k l v u book log at same equal same_book later came =
       (same_book, later, (w.key, l, subst (λ (x : V). HasCome w.key p.since (entry l x) log) (sym same) (came (entry l u) at), equal))
 
 got_map : {A : Type 0} (f : A → Book) (xs : List A) (k : ℕ) (x : A) → slice_get xs k ≡ Some x → slice_get (map f xs) k ≡ Some (f x)

@@ -1,5 +1,5 @@
 -- The history of a shard.
-use Rattle.std.specs.Prelude.{◌≡◌, ℕ, ◌+◌, ◌==◌, if◌then◌else◌, true, List, [], ◌∷◌, ◌++◌, Option, None, Some}
+use Rattle.std.specs.Prelude.{◌≡◌, ℕ, ◌+◌, ◌<◌, ◌≤◌, ◌==◌, if◌then◌else◌, true, List, [], ◌∷◌, ◌++◌, Option, None, Some}
 use mathlib.Core.List.{IsPrefix}
 use Rattle.std.specs.List.{sum_by}
 use Rattle.logbook.specs.Pages.{Book, Named}
@@ -14,8 +14,12 @@ module _ {K V : Type 0} where
   abbrev pub entry : K → V → Entry K V
   entry k v = record { key = k; value = v }
 
-  abbrev pub event : ℕ → ℕ → Option (Entry K V) → Event K V
-  event p n e = record { place = p; skipped = n; entry = e }
+  -- an event without an entry; an entry comes, whose making drew this ticket
+  abbrev pub event : ℕ → ℕ → Event K V
+  event p n = record { place = p; skipped = n; ticket = 0; entry = None }
+
+  abbrev pub coming : ℕ → ℕ → ℕ → Entry K V → Event K V
+  coming p n t e = record { place = p; skipped = n; ticket = t; entry = Some e }
 
   -- by how much the event raises the counter of this place
   abbrev pub of_place : ℕ → Event K V → ℕ
@@ -34,15 +38,22 @@ module _ {K V : Type 0} where
   abbrev pub entry_at : ℕ → List (Event K V) → Option (Entry K V)
   entry_at p log = entry_after p None log
 
-  -- the entry came to the slot at a place after the prefix `since`, and is there at the end of
-  -- `log`
+  -- a ticket was drawn after the prefix `since`, within the longer prefix `before`
+  pub record IsDrawn (ticket : ℕ) (since before : List (Event K V)) : Type 0 where
+    pub later : IsPrefix since before
+    pub after : turns 1 since < ticket
+    pub within : ticket ≤ turns 1 before
+
+  -- the making of the entry drew its ticket after the prefix `since`; then the entry came to the
+  -- slot at a place, and is there at the end of `log`
   pub record HasCome (p : ℕ) (since : List (Event K V)) (e : Entry K V) (log : List (Event K V)) : Type 0 where
     pub before : List (Event K V)
-    pub later : IsPrefix since before
     pub skipped : ℕ
-    pub came : IsPrefix (before ++ event p skipped (Some e) ∷ []) log
+    pub ticket : ℕ
+    pub begun : IsDrawn ticket since before
+    pub came : IsPrefix (before ++ coming p skipped ticket e ∷ []) log
     pub there : entry_at p log ≡ Some e
 
   -- the entry came to the slot at a place within `log`
   abbrev pub ComesTo : ℕ → Entry K V → List (Event K V) → Type 0
-  ComesTo p e log = (before : List (Event K V)) × (skipped : ℕ) × IsPrefix (before ++ event p skipped (Some e) ∷ []) log
+  ComesTo p e log = (before : List (Event K V)) × (skipped : ℕ) × (ticket : ℕ) × IsPrefix (before ++ coming p skipped ticket e ∷ []) log

@@ -17,7 +17,7 @@ pub mod SeatChanges
 pub mod Searches
 pub mod History
 pub mod Arrivals
-pub mod Claims
+pub mod Contents
 pub mod HistoryRule
 pub mod Hits
 pub mod Books

@@ -10,19 +10,23 @@ pub record PastOf (K V : Type 0) : Type 0 where
   pub since : List (Event K V)
   pub seen : List (Event K V)
 
--- the key that was asked for, the value, and what was seen of a history
+-- the key that was asked for, the value, the charge under which the entry was stored, if the call
+-- stored it, and what was seen of a history
 pub record PinOf (K V : Type 0) : Type 0 where
   pub key : K
   pub value : V
+  pub stored : Option ℕ
   pub book : Book
   pub log : List (Event K V)
 
--- what a handle shows: the key that was asked for, the charge if one was given, the value, and what
--- was seen of the history of the key's shard
+-- what a handle shows: the key that was asked for, the charge if one was given, the value, the
+-- charge under which its entry was stored, if the call stored it, and what was seen of the history
+-- of the key's shard
 pub record HandleOf (K V : Type 0) : Type 0 where
   pub key : K
   pub charge : Option ℕ
   pub value : V
+  pub stored : Option ℕ
   pub book : Book
   pub log : List (Event K V)
 

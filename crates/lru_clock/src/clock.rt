@@ -294,6 +294,7 @@ impl<K: Hash + Eq + Clone + Drop, V: Drop, R: Wait, S: BuildHasher, F: Fit<K, V>
         ensures book { IfOk result (λ h.
             IsBookOf S.BuildHasher S.Hasher.Hasher K.hash_input self.now key.now h.book) }
         ensures value { IfOk result (λ h. h.value ≡ value) }
+        ensures stored { IfOk result (λ h. h.stored ≡ Some charge) }
         ensures never_stale { IfErr result (λ e. e ≢ Refusal.Stale) }
     {
         let (shard, tag) = self.route(key);

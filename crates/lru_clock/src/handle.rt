@@ -23,8 +23,9 @@ use std::sync::Wait;
 /// right to wait may be.
 ///
 /// Clauses see the key and the charge that the caller asked for (`get` asks for no charge), and the
-/// value, which fits that key by the mark `F`. They also see a prefix of the history of the key's
-/// shard, within which the entry was stored (`log`), and whose history it is (`book`).
+/// value, which fits that key by the mark `F`. If the call stored the entry, they see the charge
+/// that counts for it (`stored`). They also see a prefix of the history of the key's shard, within
+/// which the entry was stored (`log`), and whose history it is (`book`).
 pub struct CacheHandle<'a, K: Hash + Eq + Clone, V, R: Wait, F: Fit<K, V> = Anything> {
     rt: &'a R,
     shard: &'a Shard<K, V, F>,
@@ -42,6 +43,7 @@ impl<'a, K: Hash + Eq + Clone, V, R: Wait, F: Fit<K, V>> Model for CacheHandle<'
       key = h.pin.key;
       charge = h.charge.value;
       value = h.pin.value;
+      stored = h.pin.stored;
       book = h.pin.book;
       log = h.pin.log;
     } };
@@ -60,6 +62,7 @@ impl<'a, K: Hash + Eq + Clone, V, R: Wait, F: Fit<K, V>> CacheHandle<'a, K, V, R
         ensures key { result.key ≡ pin.entry.key }
         ensures charge { result.charge ≡ charge }
         ensures value { result.value ≡ pin.entry.value }
+        ensures stored { result.stored ≡ pin.entry.stored }
         ensures seen { (result.book ≡ pin.entry.book) × (result.log ≡ pin.entry.log) }
     {
         CacheHandle {
@@ -100,6 +103,7 @@ impl<'a, K: Hash + Eq + Clone + Drop, V: Drop, R: Wait, F: Fit<K, V>> CacheHandl
         ensures key { IfOk result (λ h. h.key ≡ self.now.key) }
         ensures charge { IfOk result (λ h. h.charge ≡ self.now.charge) }
         ensures value { IfOk result (λ h. h.value ≡ self.now.value) }
+        ensures stored { IfOk result (λ h. h.stored ≡ self.now.stored) }
         ensures fits { IfOk result (λ h. F.fits h.key h.value) }
         ensures book { IfOk result (λ h. h.book ≡ self.now.book) }
         ensures never_stale { IfErr result (λ e. e ≢ Refusal.Stale) }

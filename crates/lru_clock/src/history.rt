@@ -6,16 +6,20 @@
 //! learns a prefix of the history after which the counter has that value.
 //!
 //! The shard has another counter, from which each new entry draws a number greater than all earlier
-//! ones. The counter of the entry's slot is then raised to that number, which therefore answers two
-//! questions. The entry is still in its slot as long as the slot's counter equals the number. And
-//! the entry came after some moment if the number is greater than the shard's counter was then.
-ghost use Rattle.std.specs.Prelude.{◌≡◌, ◌+◌, ◌<◌, ◌≤◌, ◌++◌, ◌∷◌, [], List, true};
-ghost use Rattle.std.specs.Prelude.{IfSome, IsTrue};
+//! ones. The counter of the entry's slot is then raised to that number, so the entry is still in
+//! its slot as long as the slot's counter equals the number.
+//!
+//! The making of a value draws a number from the same counter when it begins: its ticket. So it
+//! began after some moment if the ticket is greater than the shard's counter was then. The ticket
+//! of a value that `insert` was given is the number of its entry.
+ghost use Rattle.std.specs.Prelude.{◌≡◌, ℕ, ◌+◌, ◌<◌, ◌≤◌, ◌++◌, ◌∷◌, [], List, None, true};
+ghost use Rattle.std.specs.Prelude.{IfErr, IfOk, IfSome, IsTrue};
 ghost use mathlib.Core.List.{IsPrefix};
 ghost use Rattle.logbook.specs.Pages.{Named};
 ghost use Rattle.crossbeam_utils.specs.Padded.{padded_value};
-ghost use Rattle.lru_clock.specs.History.{turns, entry, named, ComesTo, HasCome};
+ghost use Rattle.lru_clock.specs.History.{turns, entry, entry_at, named, ComesTo, HasCome};
 ghost use Rattle.lru_clock.specs.Arrivals.{Arrives};
+ghost use Rattle.lru_clock.specs.Hits.{ComesLast};
 ghost use Rattle.lru_clock.specs.declared.history.Entry.{Entry as Entry_};
 ghost use Rattle.lru_clock.specs.declared.history.Event.{Event as Event_};
 
@@ -38,6 +42,8 @@ pub struct Event<K, V> {
     pub place: u64,
     /// How many values the slot's counter skips.
     pub skipped: u64,
+    /// The ticket of the entry that comes, or 0.
+    pub ticket: u64,
     /// The entry that comes, or `None` if the slot has no entry after the event.
     pub entry: Option<Entry<K, V>>,
 }
@@ -47,14 +53,14 @@ pub struct Event<K, V> {
 pub struct CountersMatchEvents;
 
 impl<K, V> Rule<Event<K, V>, u64> for CountersMatchEvents {
-    ghost use Rattle.std.specs.Prelude.{[], ◌∷◌, None};
+    ghost use Rattle.std.specs.Prelude.{[], ◌∷◌};
     ghost use base.Fml.{ftrue};
     ghost use Rattle.lru_clock.specs.History.{event};
     ghost use Rattle.lru_clock.specs.HistoryRule.{IsKept};
 
     ghost holds = { λ cells log. IsKept cells log };
 
-    ghost first = { event 1 0 None ∷ [] };
+    ghost first = { event 1 0 ∷ [] };
 
     ghost hinted = { λ n log. Unit {0} };
 
@@ -126,7 +132,7 @@ impl<K, V> Plain<Count<K, V>, Event<K, V>, u64> for EntryLeaves {
     ghost use Rattle.std.specs.Prelude.{None};
     ghost use Rattle.lru_clock.specs.History.{event};
 
-    ghost ask = { λ word. event word.key 0 None };
+    ghost ask = { λ word. event word.key 0 };
 
     ghost state = { λ word. None };
 }
@@ -139,16 +145,17 @@ impl<K, V> Plain<Count<K, V>, Event<K, V>, u64> for NumberIsDrawn {
     ghost use Rattle.std.specs.Prelude.{None};
     ghost use Rattle.lru_clock.specs.History.{event};
 
-    ghost ask = { λ word. event word.key 1 None };
+    ghost ask = { λ word. event word.key 1 };
 
     ghost state = { λ word. None };
 }
 
-/// An entry that comes to a slot, and how many values the slot's counter skips.
+/// An entry that comes to a slot, its ticket, and how many values the slot's counter skips.
 #[derive(Drop)]
 struct Coming<K, V> {
     word: Shown<Count<K, V>>,
     skipped: u64,
+    ticket: u64,
     key: Shown<K>,
     value: Shown<V>,
 }
@@ -157,11 +164,11 @@ struct Coming<K, V> {
 struct EntryComes;
 
 impl<K, V> Plain<Coming<K, V>, Event<K, V>, u64> for EntryComes {
-    ghost use Rattle.std.specs.Prelude.{None, Some};
-    ghost use Rattle.lru_clock.specs.History.{event, entry};
+    ghost use Rattle.std.specs.Prelude.{None};
+    ghost use Rattle.lru_clock.specs.History.{coming, entry};
 
-    ghost ask = { λ x. event x.word.value.key x.skipped
-        (Some (entry x.key.value x.value.value)) };
+    ghost ask = { λ x. coming x.word.value.key x.skipped x.ticket
+        (entry x.key.value x.value.value) };
 
     ghost state = { λ x. None };
 }
@@ -169,13 +176,13 @@ impl<K, V> Plain<Coming<K, V>, Event<K, V>, u64> for EntryComes {
 /// A caller's record of what it has seen of a key's shard, with which it finds nothing again that
 /// it has invalidated.
 ///
-/// After an `invalidate_since` with a past, `find_since` with that past returns only entries that
-/// were stored after the call, whatever other callers do, and so none that the past had seen: found
-/// with it, or learned of by `learn`.
+/// After an `invalidate_since` with a past, `find_since` with that past returns only values that
+/// were inserted, or whose making began, after the call, whatever other callers do. So it returns
+/// none that the past had seen: found with it, or learned of by `learn`.
 ///
 /// Clauses see two prefixes of the shard's history: what the caller has seen (`seen`), and the
-/// prefix after which an entry must have been stored for the caller to find it (`since`). The
-/// `book` says whose history it is. At run time a past is one number.
+/// prefix after which the making of an entry must have begun for the caller to find the entry
+/// (`since`). The `book` says whose history it is. At run time a past is one number.
 #[derive(Drop)]
 pub struct Past<K, V> {
     // At least as great as each number that was drawn in `since`.
@@ -229,7 +236,7 @@ impl<K, V> Past<K, V> {
         self.seen.again()
     }
 
-    /// Returns the prefix after which an entry must have been stored to be found.
+    /// Returns the prefix after which the making of an entry must have begun for it to be found.
     pub(crate) fn since(&self) -> Log<K, V>
         ensures { (result.book ≡ self.now.book) × (result.log ≡ self.now.since) }
     {
@@ -252,23 +259,30 @@ impl<K, V> Past<K, V> {
         }
     }
 
-    /// Returns a longer prefix of the history, if the entry of this arrival came after `since` and
-    /// is still in its slot at the end of the prefix.
+    /// Returns a longer prefix of the history, if the making of the entry of this arrival, which is
+    /// of this age, is known to have begun after `since`, and the entry is still in its slot at the
+    /// end of the prefix.
     #[inline(always)]
-    pub(crate) fn find(&self, track: &Track<K, V>, arrival: &Arrival<K, V>) -> Option<Log<K, V>>
+    pub(crate) fn find(
+        &self,
+        track: &Track<K, V>,
+        arrival: &Arrival<K, V>,
+        age: u32,
+    ) -> Option<Log<K, V>>
         requires book { self.now.book ≡ track.now.word.book }
         requires arrival { arrival.now.log.book ≡ track.now.word.book }
         ensures ours { IfSome result (λ seen. seen.book ≡ track.now.word.book) }
         ensures comes { IfSome result (λ seen. (e : Entry_ K V)
-            → Arrives track.now.word arrival.now e → ComesTo track.now.word.key e seen.log) }
+            → Arrives track.now.word arrival.now age e → ComesTo track.now.word.key e seen.log) }
         ensures book { IfSome result (λ seen. seen.book ≡ self.now.book) }
         ensures later { IfSome result (λ seen. IsPrefix self.now.seen seen.log) }
         ensures came { IfSome result (λ seen. (e : Entry_ K V)
-            → Arrives track.now.word arrival.now e
+            → Arrives track.now.word arrival.now age e
             → HasCome track.now.word.key self.now.since e seen.log) }
     {
         let (number, seen) = track.look(&self.seen);
-        if number != arrival.number || arrival.number <= self.number {
+        let ticket = arrival.ticket(age)?;
+        if number != arrival.number || ticket <= self.number {
             return None;
         }
         // Has no effect at run time: it proves that both are prefixes of one history.
@@ -280,6 +294,9 @@ impl<K, V> Past<K, V> {
 
 /// How an entry came to its slot: the number that was drawn for it, and the prefix of the history
 /// that ends when it came.
+///
+/// The age of its making, which the slot keeps, is how far the ticket lies below the number, or
+/// `u32::MAX` if it lies that far below or farther.
 #[derive(Drop)]
 pub struct Arrival<K, V> {
     number: u64,
@@ -287,11 +304,26 @@ pub struct Arrival<K, V> {
 }
 
 impl<K, V> Arrival<K, V> {
+    // Returns the ticket of the making, which is of this age. Returns `None` if the age is too great
+    // to tell: two billion numbers were drawn during the making, which then counts as begun before
+    // the `since` of any past.
+    #[inline(always)]
+    fn ticket(&self, age: u32) -> Option<u64>
+        ensures { IfSome result (λ ticket. (w : Named) (e : Entry_ K V)
+            → (at : Arrives w self.now age e) → at.ticket ≡ ticket) }
+    {
+        if age == u32::MAX {
+            return None;
+        }
+        // Always `Some`, since a ticket is drawn before the number.
+        self.number.checked_sub(age as u64)
+    }
+
     /// Returns whether both are one arrival, if they are arrivals at one slot.
     pub(crate) fn is(&self, other: &Arrival<K, V>) -> bool
         requires book { other.now.log.book ≡ self.now.log.book }
-        ensures { IsTrue result → (w : Named) (e f : Entry_ K V)
-            → Arrives w self.now e → Arrives w other.now f → e ≡ f }
+        ensures { IsTrue result → (w : Named) (age other_age : ℕ) (e f : Entry_ K V)
+            → Arrives w self.now age e → Arrives w other.now other_age f → e ≡ f }
     {
         // Has no effect at run time: it proves that both are prefixes of one history.
         let mut both = self.log.again();
@@ -304,6 +336,7 @@ impl<K, V> Arrival<K, V> {
     #[inline(always)]
     pub(crate) fn confirm(
         &self,
+        age: u32,
         track: &Track<K, V>,
         past: &Option<Past<K, V>>,
     ) -> Option<Log<K, V>>
@@ -311,18 +344,53 @@ impl<K, V> Arrival<K, V> {
         requires book { IfSome past.now (λ p. p.book ≡ track.now.word.book) }
         ensures ours { IfSome result (λ seen. seen.book ≡ track.now.word.book) }
         ensures comes { IfSome result (λ seen. (e : Entry_ K V)
-            → Arrives track.now.word self.now e → ComesTo track.now.word.key e seen.log) }
+            → Arrives track.now.word self.now age e → ComesTo track.now.word.key e seen.log) }
         ensures book { IfSome past.now (λ past. IfSome result (λ seen. seen.book ≡ past.book)) }
         ensures later { IfSome past.now
             (λ past. IfSome result (λ seen. IsPrefix past.seen seen.log)) }
         ensures came { IfSome past.now (λ past. IfSome result (λ seen. (e : Entry_ K V)
-            → Arrives track.now.word self.now e
+            → Arrives track.now.word self.now age e
             → HasCome track.now.word.key past.since e seen.log)) }
     {
         match past {
-            Some(past) => past.find(track, self),
+            Some(past) => past.find(track, self, age),
             None => Some(self.log.again()),
         }
+    }
+}
+
+/// A debt: the history has an entry in a slot. `Track::leave` takes it, which records that the entry
+/// has left, or `Track::come`, which records that another has taken its place. So no entry leaves
+/// its slot unrecorded.
+///
+/// While others can find the entry, its slot has the debt: it is `keep` that gives it to the slot,
+/// and `Track::recorded` that takes it back. Clauses see the counter of the slot.
+pub struct Recorded<K, V> {
+    word: Shown<Count<K, V>>,
+}
+
+impl<K, V> Model for Recorded<K, V> {
+    ghost use Rattle.logbook.specs.Pages.{Named};
+
+    ghost Value = { Named };
+
+    ghost view = { λ r. r.word.value };
+}
+
+impl<K, V> Recorded<K, V> {
+    /// Leaves the entry in the history.
+    pub fn keep(self) {
+        let Recorded { word: _ } = self;
+    }
+
+    // Ends the debt: at the end of this prefix of the history, the slot has no entry.
+    fn end(self, seen: &Log<K, V>)
+        requires book { seen.now.book ≡ self.book }
+        requires gone { entry_at self.key seen.now.log ≡ None }
+    {
+        // Only the contract uses it.
+        let _ = seen;
+        let Recorded { word: _ } = self;
     }
 }
 
@@ -354,7 +422,7 @@ impl<K, V> Chronicle<K, V> {
     }
 
     /// Returns a past that has seen the history up to this call. Its `since` is the beginning, so
-    /// that every entry is stored after it.
+    /// that every making begins after it.
     pub fn past(&self) -> Past<K, V>
         ensures book { result.book ≡ self.now.first.book }
         ensures since { result.since ≡ self.now.first.log }
@@ -367,12 +435,12 @@ impl<K, V> Chronicle<K, V> {
         }
     }
 
-    /// Draws a number, and returns it with a prefix of the history in which it is drawn.
+    /// Draws a number, and returns it with the prefix of the history that ends when it is drawn.
     ///
     /// Returns `None` if another caller draws a number at the same time, or if no number is left.
     pub fn draw(&self) -> Option<(u64, Log<K, V>)>
         ensures book { IfSome result (λ drawn. drawn.1.book ≡ self.now.first.book) }
-        ensures drawn { IfSome result (λ drawn. drawn.0 ≤ turns 1 drawn.1.log) }
+        ensures drawn { IfSome result (λ drawn. drawn.0 ≡ turns 1 drawn.1.log) }
     {
         self.numbers.draw(&self.first)
     }
@@ -455,42 +523,79 @@ impl<K, V> Track<K, V> {
         }
     }
 
-    /// Records that an entry comes to the slot, with a number that was drawn in `seen`.
+    /// Records that an entry comes to the slot, with a number that was drawn in `seen`, and a
+    /// ticket that was drawn no later. It takes the place of the entry `old`, if there is one.
+    /// Returns the arrival, the age of the making, and the debt of the new entry.
     ///
-    /// Returns `None` if the counter has already reached the number, or if another caller changes
-    /// it at the same time.
-    pub fn come(&self, number: u64, seen: &Log<K, V>, key: &K, value: &V) -> Option<Arrival<K, V>>
+    /// Returns `old` if the counter has already reached the number, or if another caller changes it
+    /// at the same time.
+    pub fn come(
+        &self,
+        number: u64,
+        ticket: u64,
+        seen: &Log<K, V>,
+        key: &K,
+        value: &V,
+        old: Option<Recorded<K, V>>,
+    ) -> Result<(Arrival<K, V>, u32, Recorded<K, V>), Option<Recorded<K, V>>>
         requires book { seen.now.book ≡ self.now.word.book }
         requires drawn { number ≤ turns 1 seen.now.log }
-        ensures arrives { IfSome result
-            (λ arrival. Arrives self.now.word arrival (entry key.now value.now)) }
+        requires begun { ticket ≤ number }
+        requires old { IfSome old (λ r. r ≡ self.now.word) }
+        ensures arrives { IfOk result
+            (λ came. Arrives self.now.word came.0 came.1 (entry key.now value.now)) }
+        ensures ticket { IfOk result (λ came. ComesLast ticket value.now came.0.log.log) }
+        ensures recorded { IfOk result (λ came. came.2 ≡ self.now.word) }
+        ensures back { IfErr result (λ back. back ≡ old) }
     {
         let (last, mut log) = self.look(seen);
         if last >= number {
-            return None;
+            return Err(old);
         }
         let coming = Coming {
             word: Shown::of(&self.word),
             skipped: number - last - 1,
+            ticket,
             key: Shown::of(key),
             value: Shown::of(value),
         };
         let ask = log.plain::<GainsNothing, Coming<K, V>, EntryComes>(&coming);
         if self.add(last, number, ask, &mut log) {
-            Some(Arrival { number, log })
+            let age = (number - ticket).min(u32::MAX as u64) as u32;
+            let recorded = match old {
+                Some(old) => old,
+                None => self.recorded(),
+            };
+            Ok((Arrival { number, log }, age, recorded))
         } else {
-            None
+            Err(old)
         }
     }
 
-    /// Records that the slot has no entry from now on, unless another caller changes the counter at
-    /// the same time.
-    pub fn leave(&self) {
+    /// Returns the debt of the entry that the history has in the slot, once others can no longer
+    /// find it there.
+    pub fn recorded(&self) -> Recorded<K, V>
+        ensures { result ≡ self.now.word }
+    {
+        Recorded {
+            word: Shown::of(&self.word),
+        }
+    }
+
+    /// Records that the entry has left the slot.
+    pub fn leave(&self, recorded: Recorded<K, V>)
+        requires { recorded ≡ self.now.word }
+    {
         let (last, mut seen) = self.look(&self.begun);
         if last < MOST_NUMBERS {
             let ask = seen.plain::<GainsNothing, Count<K, V>, EntryLeaves>(&self.word);
-            self.add(last, last + 1, ask, &mut seen);
+            if self.add(last, last + 1, ask, &mut seen) {
+                recorded.end(&seen);
+                return;
+            }
         }
+        // Never so: nobody else changes the counter of a slot without the lock.
+        recorded.keep();
     }
 
     // Adds the event that is asked for, which raises the counter from `last` to `next`. Returns

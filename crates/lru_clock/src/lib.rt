@@ -6,9 +6,9 @@
 //! and spares those that were used since it last passed them. Misses, insertions and evictions take
 //! the lock of a shard.
 //!
-//! What a caller found with a `Past` before it invalidated the key, it never finds with that past
-//! again. That is proved by a history of each shard, which exists only in proofs and records when
-//! each entry was stored.
+//! After a caller invalidates a key with a `Past`, it finds with that past only values whose making
+//! began later. That is proved by a history of each shard, which exists only in proofs and records
+//! when each making began and when each entry was stored.
 //!
 //! The caches of `concurrent_lru` evict in exact LRU order. This one has the same calls, marks and
 //! errors.

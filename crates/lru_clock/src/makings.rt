@@ -1,24 +1,37 @@
 //! The keys whose values are being made, under the lock of a shard.
 ghost use Rattle.std.specs.Prelude.{◌≡◌, ◌≢◌, [], false, IfErr, IfOk, MatchBool, MatchOption};
 ghost use Rattle.std.specs.List.{list_any};
+ghost use Rattle.lru_clock.specs.History.{turns};
 ghost use Rattle.lru_clock.specs.Makings.{has_number, is_numbered, is_of, Ends, IsAt, IsWith, Marks};
 
+use crate::history::Log;
 use concurrent_lru::sharded::Refusal;
 use std::alloc::{AllocError, Global};
 use std::marker::Model;
 
 /// A debt: a value that its caller makes. `Makings::end` takes it, whether the value was made or
-/// not. No other making has its number.
-pub struct Ticket {
+/// not. Its number was drawn from the history of the shard when the making began, and no other
+/// making has it.
+pub struct Ticket<K, V> {
     number: u64,
+    // The prefix of the history that ends when the number was drawn.
+    pub(crate) began: Log<K, V>,
+    ghost drawn: { number ≡ turns 1 began.log },
 }
 
-impl Ticket {
+impl<K, V> Ticket<K, V> {
+    /// Returns the number.
+    pub(crate) fn number(&self) -> u64
+        ensures { result ≡ self.now.number }
+    {
+        self.number
+    }
+
     /// Returns the number of the making, which `Makings::end_number` takes in place of the ticket.
     pub(crate) fn into_number(self) -> u64
         ensures { result ≡ self.number }
     {
-        let Ticket { number } = self;
+        let Ticket { number, began: _ } = self;
         number
     }
 }
@@ -50,6 +63,7 @@ pub enum Ended<K> {
 #[derive(Drop)]
 pub struct Makings<K: Eq> {
     makings: Vec<Making<K>>,
+    // The least number that the next making may have.
     next_number: u64,
     waiting: u64,
 }
@@ -92,15 +106,26 @@ impl<K: Eq + Drop> Makings<K> {
         self.find(key).is_some()
     }
 
-    /// Begins the making of a key's value, which nobody is making, and returns its ticket.
+    /// Begins the making of a key's value, which nobody is making, and returns its ticket, with a
+    /// number that was drawn at the end of `began`.
     ///
-    /// Returns `Memory` if the allocator refuses, and `Overflow` after `u64::MAX` makings.
-    pub fn begin(&mut self, key: K) -> Result<Ticket, Refusal>
+    /// Returns `Memory` if the allocator refuses, and `Overflow` if an earlier making has the same
+    /// number or a greater one.
+    pub fn begin<V>(
+        &mut self,
+        key: K,
+        number: u64,
+        began: Log<K, V>,
+    ) -> Result<Ticket<K, V>, Refusal>
         requires absent { list_any (is_of K.eq key) self.now ≡ false }
+        requires drawn { number ≡ turns 1 began.log }
+        ensures began { IfOk result (λ ticket. ticket.began ≡ began) }
         ensures made { IfOk result (λ ticket. IsWith self.old key ticket.number self.new) }
         ensures refused { IfErr result (λ e. (self.new ≡ self.old) × (e ≢ Refusal.Stale)) }
     {
-        let number = self.next_number;
+        if number < self.next_number {
+            return Err(Refusal::Overflow);
+        }
         let Some(next_number) = number.checked_add(1) else {
             return Err(Refusal::Overflow);
         };
@@ -113,11 +138,11 @@ impl<K: Eq + Drop> Makings<K> {
             return Err(AllocError::from(failed).into());
         }
         self.next_number = next_number;
-        Ok(Ticket { number })
+        Ok(Ticket { number, began })
     }
 
     /// Ends a making.
-    pub fn end(&mut self, ticket: Ticket) -> Ended<K>
+    pub fn end<V>(&mut self, ticket: Ticket<K, V>) -> Ended<K>
         ensures { Ends ticket.number self.old result self.new }
     {
         self.end_number(ticket.into_number())

@@ -37,7 +37,7 @@ pub struct Shard<K: Hash + Eq + Clone, V, F: Fit<K, V>> {
 /// What a caller that found no entry without the lock must do.
 pub enum Turn<'a, K: Eq, V, F: Fit<K, V>> {
     /// Make the value, under this ticket.
-    Make(Ticket),
+    Make(Ticket<K, V>),
     /// Nothing: the key has an entry, which was pinned.
     Hit(u32, Pin<'a, K, V, F>),
 }
@@ -61,7 +61,7 @@ impl<K: Hash + Eq + Clone + Drop, V: Drop, F: Fit<K, V>> Shard<K, V, F> {
     }
 
     /// Returns a past that has seen the history up to this call. Its `since` is the beginning, so
-    /// that every entry is stored after it.
+    /// that every making begins after it.
     pub fn past(&self) -> Past<K, V>
         ensures book { result.book ≡ self.now.core.store.chronicle.first.book }
     {

@@ -8,6 +8,7 @@
 ghost use Rattle.std.specs.Prelude.{◌≡◌, ◌≢◌, ◌<◌, true, Some, None, IfErr, IfOk, IfSome};
 ghost use Rattle.std.specs.Prelude.{MatchResult, sum_by};
 ghost use Rattle.lru_clock.specs.Books.{EachOf, numbers};
+ghost use Rattle.lru_clock.specs.Hits.{ComesLast};
 ghost use Rattle.lru_clock.specs.Looks.{LooksOnce};
 ghost use Rattle.lru_clock.specs.Orders.{IsWidened};
 ghost use Rattle.lru_clock.specs.SeatChanges.{AddsVacant};
@@ -268,7 +269,7 @@ impl<K: Eq + Drop, V: Drop, F: Fit<K, V>> Store<K, V, F> {
     }
 
     /// Returns a past that has seen the history up to this call. Its `since` is the beginning, so
-    /// that every entry is stored after it.
+    /// that every making begins after it.
     pub fn past(&self) -> Past<K, V>
         ensures book { result.book ≡ self.now.chronicle.first.book }
     {
@@ -286,7 +287,8 @@ impl<K: Eq + Drop, V: Drop, F: Fit<K, V>> Store<K, V, F> {
     }
 
     /// Stores an entry in the slot whose place was reserved for it, and returns the place and a
-    /// pin. Nobody else can pin an entry that is invalidated before it is stored. An entry that is
+    /// pin. The ticket is that of the making of the value, or `None` if the making begins with this
+    /// call. Nobody else can pin an entry that is invalidated before it is stored. An entry that is
     /// about to leave this slot leaves in the same step.
     ///
     /// Returns the reservation and the entry if the entry cannot be stored.
@@ -295,6 +297,7 @@ impl<K: Eq + Drop, V: Drop, F: Fit<K, V>> Store<K, V, F> {
         reservation: Reservation<K>,
         key: &K,
         kept: Kept<K, V, F>,
+        ticket: Option<u64>,
         is_invalidated: bool,
         left: &mut Option<Left<'a, K, V, F>>,
     ) -> Result<(u32, Pin<'a, K, V, F>), (Reservation<K>, Kept<K, V, F>)>
@@ -308,12 +311,20 @@ impl<K: Eq + Drop, V: Drop, F: Fit<K, V>> Store<K, V, F> {
         ensures pin { IfOk result
             (λ filled. (filled.1.key ≡ key.now) × F.fits key.now filled.1.value) }
         ensures value { IfOk result (λ filled. filled.1.value ≡ kept.value) }
+        ensures stored { IfOk result (λ filled. filled.1.stored ≡ reservation.charge.value) }
+        ensures ticket { IfSome ticket (λ t. IfOk result
+            (λ filled. ComesLast t filled.1.value filled.1.log)) }
         ensures book { IfOk result (λ filled. filled.1.book ≡ self.now.chronicle.first.book) }
     {
         // Always `Some`, since nobody else draws a number without the lock.
         let Some((number, seen)) = self.chronicle.draw() else {
             return Err((reservation, kept));
         };
+        let ticket = ticket.unwrap_or(number);
+        // Never so, since a ticket is drawn before.
+        if ticket > number {
+            return Err((reservation, kept));
+        }
         let place = reservation.place;
         let claimed = match Left::take_slot(left, place) {
             Some(claimed) => claimed,
@@ -322,14 +333,19 @@ impl<K: Eq + Drop, V: Drop, F: Fit<K, V>> Store<K, V, F> {
                 None => return Err((reservation, kept)),
             },
         };
-        let (stored, old) = claimed.fill(key, kept, is_invalidated, number, &seen);
+        let charge = reservation.charge.again();
+        let (stored, old) = claimed.fill(key, kept, charge, is_invalidated, number, ticket, &seen);
         // A slot that was free had no old entry.
         if let (Some(left), Some(old)) = (left, old) {
             left.kept = Some(old);
         }
         match stored {
             Ok(pin) => {
-                let Reservation { place, key: _ } = reservation;
+                let Reservation {
+                    place,
+                    key: _,
+                    charge: _,
+                } = reservation;
                 Ok((place, pin))
             }
             Err(kept) => Err((reservation, kept)),

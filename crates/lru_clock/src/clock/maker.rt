@@ -35,7 +35,7 @@ pub struct Maker<'a, K: Hash + Eq + Clone, V, R: Wait, F: Fit<K, V> = Anything> 
     tag: u32,
     key: K,
     charge: u64,
-    ticket: Ticket,
+    ticket: Ticket<K, V>,
     ghost charged: { 0 < charge },
 }
 
@@ -62,6 +62,7 @@ impl<'a, K: Hash + Eq + Clone + Drop, V: Drop, R: Wait, F: Fit<K, V>> Maker<'a, 
         ensures key { IfOk result (λ h. h.key ≡ self.entry.key) }
         ensures charge { IfOk result (λ h. h.charge ≡ Some self.entry.charge) }
         ensures value { IfOk result (λ h. h.value ≡ value) }
+        ensures stored { IfOk result (λ h. h.stored ≡ Some self.entry.charge) }
         ensures fits { IfOk result (λ h. F.fits h.key h.value) }
         ensures book { IfOk result (λ h. h.book ≡ self.entry.book) }
         ensures never_stale { IfErr result (λ e. e ≢ Refusal.Stale) }
@@ -79,6 +80,7 @@ impl<'a, K: Hash + Eq + Clone + Drop, V: Drop, R: Wait, F: Fit<K, V>> Maker<'a, 
         ensures key { IfOk result (λ h. h.key ≡ self.entry.key) }
         ensures charge { IfOk result (λ h. h.charge ≡ Some charge) }
         ensures value { IfOk result (λ h. h.value ≡ value) }
+        ensures stored { IfOk result (λ h. h.stored ≡ Some charge) }
         ensures fits { IfOk result (λ h. F.fits h.key h.value) }
         ensures book { IfOk result (λ h. h.book ≡ self.entry.book) }
         ensures never_stale { IfErr result (λ e. e ≢ Refusal.Stale) }

@@ -19,7 +19,8 @@ impl<K: Hash + Eq + Clone + Drop, V: Drop, R: Wait, S: BuildHasher, F: Fit<K, V>
     F,
 > {
     /// Returns a new past of the key's shard, which has seen what is there now. Until the first
-    /// `invalidate_since` with it, `find_since` finds what `find` would. Takes no memory.
+    /// `invalidate_since` with it, `find_since` finds what `find` would, except as it says of very
+    /// long makings. Takes no memory.
     pub fn past(&self, key: &K) -> Past<K, V>
         ensures book { IsBookOf S.BuildHasher S.Hasher.Hasher K.hash_input self.now key.now
             result.book }
@@ -28,13 +29,14 @@ impl<K: Hash + Eq + Clone + Drop, V: Drop, R: Wait, S: BuildHasher, F: Fit<K, V>
         shard.past()
     }
 
-    /// `find`, limited to entries that were stored after the last `invalidate_since` with this
-    /// past.
+    /// `find`, limited to values that were inserted, or whose making began, after the last
+    /// `invalidate_since` with this past.
     ///
     /// So an entry that this past had seen before that call is not found again: one that was found
     /// with it, or that it has learned of by `Past::learn`. A hit extends the prefix of the history
     /// that the past has seen, and the entry is in the cache at the end of that prefix. A copy of a
-    /// past begins with what the past has seen by then. Reads one more word than `find`.
+    /// past begins with what the past has seen by then. Reads one more word than `find`. Does not
+    /// find a value if two billion makings and insertions came to its shard while it was made.
     ///
     /// Returns `Overflow` as `get` does.
     #[inline(always)]
@@ -66,9 +68,9 @@ impl<K: Hash + Eq + Clone + Drop, V: Drop, R: Wait, S: BuildHasher, F: Fit<K, V>
         }
     }
 
-    /// `invalidate`, after which `find_since` with this past returns only entries that are stored
-    /// later, for every key of the shard: the new `since` is the prefix of the history after which
-    /// the key was invalidated, and extends all that the past had seen.
+    /// `invalidate`, after which `find_since` with this past returns only values that are inserted,
+    /// or whose making begins, later, for every key of the shard: the new `since` is the prefix of
+    /// the history after which the key was invalidated, and extends all that the past had seen.
     ///
     /// Returns evidence for clauses that it did, which may be dropped.
     pub fn invalidate_since(&self, key: &K, past: &mut Past<K, V>) -> Invalidated<K, V>

@@ -3,6 +3,7 @@ ghost use Rattle.std.specs.Prelude.{◌≡◌, ◌≢◌, false, true, None, Som
 ghost use Rattle.std.specs.Prelude.{MatchOption, MatchResult, sum_by};
 ghost use Rattle.std.proofs.Math.ListN.{set};
 ghost use Rattle.lru_clock.specs.Evictions.{Comes, refuses};
+ghost use Rattle.lru_clock.specs.Hits.{ComesLast};
 ghost use Rattle.lru_clock.specs.Orders.{IsWidened};
 ghost use Rattle.lru_clock.specs.SeatChanges.{AddsVacant, Charges, KeepsCharges, Reserves};
 ghost use Rattle.lru_clock.specs.Seats.{seat, LacksKey};
@@ -58,7 +59,8 @@ impl<K: Eq + Clone + Drop, V: Drop, F: Fit<K, V>> Core<K, V, F> {
 
     /// Stores an entry in a vacant place, and pins it. It has no chance yet. An entry without a
     /// copy of its key is already invalidated, and only this caller gets it. If the place is that
-    /// of the entry that has just left, the new entry takes its slot.
+    /// of the entry that has just left, the new entry takes its slot. The ticket is that of the
+    /// making of the value, or `None` if the making begins with this call.
     ///
     /// Returns `Memory` and `Overflow` as `admit` does, and `Full` if the limit is strict and the
     /// charge would take the total above the capacity, each with the entry that was refused.
@@ -71,6 +73,7 @@ impl<K: Eq + Clone + Drop, V: Drop, F: Fit<K, V>> Core<K, V, F> {
         charge: u64,
         kept: Kept<K, V, F>,
         key_copy: Option<K>,
+        ticket: Option<u64>,
         left: &mut Option<Left<'a, K, V, F>>,
     ) -> Result<(u32, Pin<'a, K, V, F>), (Refusal, Left<'a, K, V, F>)>
         requires fits { F.fits kept.key kept.value }
@@ -82,6 +85,9 @@ impl<K: Eq + Clone + Drop, V: Drop, F: Fit<K, V>> Core<K, V, F> {
         ensures pin { IfOk result
             (λ found. (found.1.key ≡ key.now) × F.fits key.now found.1.value) }
         ensures value { IfOk result (λ found. found.1.value ≡ kept.value) }
+        ensures stored { IfOk result (λ found. found.1.stored ≡ Some charge) }
+        ensures ticket { IfSome ticket (λ t. IfOk result
+            (λ found. ComesLast t found.1.value found.1.log)) }
         ensures book { IfOk result
             (λ found. found.1.book ≡ self.now.store.chronicle.first.book) }
         ensures never_stale { IfErr result (λ e. e.0 ≢ Refusal.Stale) }
@@ -106,7 +112,10 @@ impl<K: Eq + Clone + Drop, V: Drop, F: Fit<K, V>> Core<K, V, F> {
             Ok(reservation) => reservation,
             Err((refusal, key_copy)) => return Err((refusal, Left::refused(kept, key_copy))),
         };
-        match self.store.fill(reservation, key, kept, !is_listed, left) {
+        match self
+            .store
+            .fill(reservation, key, kept, ticket, !is_listed, left)
+        {
             Ok((place, pin)) => {
                 self.list(state, place);
                 state.come(place);
@@ -143,6 +152,7 @@ impl<K: Eq + Clone + Drop, V: Drop, F: Fit<K, V>> Core<K, V, F> {
         key_copy: Option<K>,
     ) -> Result<Reservation<K>, (Refusal, Option<K>)>
         ensures done { IfOk result (λ r. r.key.value ≡ key_copy) }
+        ensures charge { IfOk result (λ r. r.charge.value ≡ Some charge) }
         ensures refused { IfErr result (λ e. e.0 ≢ Refusal.Stale) }
         ensures order { IsWidened state.old.order state.new.order }
         ensures capacity { state.new.capacity ≡ state.old.capacity }

@@ -114,14 +114,15 @@ impl<K: Eq + Clone + Drop, V: Copy + Drop, F: Fit<K, V>> Core<K, V, F> {
         ensures charged { IfOk result
             (λ place. Charges charge place state.old.seats state.new.seats) }
     {
-        let place = self.hold_entry(state, tag, key, charge, value, true)?;
+        let place = self.hold_entry(state, tag, key, charge, value, None, true)?;
         state.makings.invalidate(key);
         state.counts.insertions = state.counts.insertions.wrapping_add(1);
         Ok(place)
     }
 
-    /// Stores a value, holds the entry, and returns its place. If the index is not to have the
-    /// entry, it is already invalidated, and only this caller gets it.
+    /// Stores a value, which was made under a ticket of this number, or which begins to be made by
+    /// this call if there is none. Holds the entry, and returns its place. If the index is not to
+    /// have the entry, it is already invalidated, and only this caller gets it.
     ///
     /// Returns `Memory` and `Overflow` as `hold_new` does.
     pub(crate) fn hold_entry(
@@ -131,6 +132,7 @@ impl<K: Eq + Clone + Drop, V: Copy + Drop, F: Fit<K, V>> Core<K, V, F> {
         key: &K,
         charge: u64,
         value: V,
+        ticket: Option<u64>,
         is_listed: bool,
     ) -> Result<u32, Refusal>
         requires fits { F.fits key.now value }
@@ -146,7 +148,7 @@ impl<K: Eq + Clone + Drop, V: Copy + Drop, F: Fit<K, V>> Core<K, V, F> {
             None
         };
         let mut left = None;
-        let stored = self.put(state, tag, key, charge, kept, key_copy, &mut left);
+        let stored = self.put(state, tag, key, charge, kept, key_copy, ticket, &mut left);
         if let Some(left) = left {
             drop(left.into_parts());
         }

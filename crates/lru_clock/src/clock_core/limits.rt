@@ -13,13 +13,18 @@ impl<K: Eq + Clone + Drop, V: Drop, F: Fit<K, V>> Core<K, V, F> {
     /// Returns whether the limit is strict and has no room for a new entry of this charge, even
     /// once every entry that nobody has pinned has left. Visits slots until enough of the entries
     /// there are idle.
+    #[inline(always)]
     pub fn is_full_for(&self, state: &ShardState<K>, charge: u64) -> bool
         ensures { result ≡ true
             → refuses state.now.is_strict state.now.capacity state.now.seats charge ≡ true }
     {
-        if !state.refuses(charge, state.is_strict) {
-            return false;
-        }
+        state.refuses(charge, state.is_strict) && self.lacks_idle(state, charge)
+    }
+
+    // Returns whether the total, with a new entry of this charge, would exceed the capacity even
+    // without the charges of the entries that nobody has pinned.
+    #[inline(never)]
+    fn lacks_idle(&self, state: &ShardState<K>, charge: u64) -> bool {
         let total = state.seats.total().saturating_add(charge);
         let excess = total.saturating_sub(state.capacity);
         let mut idle = 0u64;

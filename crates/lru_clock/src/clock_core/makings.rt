@@ -1,6 +1,7 @@
 //! The making of values, and how it goes on by callers that cannot keep a ticket or a pin: they
 //! have the number of the making, and hold the entry.
-ghost use Rattle.std.specs.Prelude.{◌≡◌, ◌≢◌, false, true, IfErr, IfOk, MatchBool, MatchOption};
+ghost use Rattle.std.specs.Prelude.{◌≡◌, ◌≢◌, false, true, IfErr, IfOk, IfSome};
+ghost use Rattle.std.specs.Prelude.{MatchBool, MatchOption};
 ghost use Rattle.std.specs.List.{list_any};
 ghost use Rattle.lru_clock.specs.Begun.{IsBegun};
 ghost use Rattle.lru_clock.specs.Makings.{has_number, is_of, HasEnded, IsWith};
@@ -23,24 +24,26 @@ pub enum Begun<V> {
 }
 
 impl<K: Eq + Clone + Drop, V: Drop, F: Fit<K, V>> Core<K, V, F> {
-    /// Begins the making of a key's value, and returns its ticket. Returns `None` if another caller
-    /// is making it.
+    /// Begins the making of a key's value, and returns its ticket, whose number is drawn from the
+    /// history. Returns `None` if another caller is making it.
     ///
-    /// Returns `Overflow` if the charge would take the total past `u64::MAX`, `Full` if the limit
-    /// is strict and has no room for the charge, and `Overflow` and `Memory` as `Makings::begin`
-    /// does. Nothing changes then.
+    /// Returns `Overflow` if the charge would take the total past `u64::MAX`, or if no number is
+    /// left, `Full` if the limit is strict and has no room for the charge, and `Memory` if a copy
+    /// of the key or the making is refused. Nothing changes then.
     pub fn start(
         &self,
         state: &mut ShardState<K>,
         key: &K,
         charge: u64,
-    ) -> Result<Option<Ticket>, Refusal>
+    ) -> Result<Option<Ticket<K, V>>, Refusal>
         ensures started { IfOk result (λ started. MatchOption started
             ((list_any (is_of K.eq key.now) state.old.makings ≡ true) × (state.new ≡ state.old))
             (λ ticket. (list_any (is_of K.eq key.now) state.old.makings ≡ false)
             × (state.new ≡ record state.old { makings = state.new.makings })
             × ((copy : K) × (K.eq copy key.now ≡ true)
             × IsWith state.old.makings copy ticket.number state.new.makings))) }
+        ensures began { IfOk result (λ started. IfSome started
+            (λ ticket. ticket.began.book ≡ self.now.store.chronicle.first.book)) }
         ensures refused { IfErr result (λ e. (e ≢ Refusal.Stale) × (state.new ≡ state.old)) }
     {
         if state.makings.contains(key) {
@@ -53,7 +56,11 @@ impl<K: Eq + Clone + Drop, V: Drop, F: Fit<K, V>> Core<K, V, F> {
             return Err(Refusal::Full);
         }
         let key_copy = key.clone()?;
-        Ok(Some(state.makings.begin(key_copy)?))
+        // Always `Some`, since nobody else draws a number without the lock.
+        let Some((number, began)) = self.store.chronicle.draw() else {
+            return Err(Refusal::Overflow);
+        };
+        Ok(Some(state.makings.begin(key_copy, number, began)?))
     }
 
     /// Ends the making with a number, which failed. Returns whether there is such a making.
@@ -121,7 +128,7 @@ impl<K: Eq + Clone + Drop, V: Copy + Drop, F: Fit<K, V>> Core<K, V, F> {
             Ended::Invalidated(key) => (key, false),
             Ended::Unknown => return Ok(None),
         };
-        match self.hold_entry(state, tag, &key, charge, value, is_listed) {
+        match self.hold_entry(state, tag, &key, charge, value, Some(number), is_listed) {
             Ok(place) => {
                 state.counts.makings = state.counts.makings.wrapping_add(1);
                 Ok(Some(place))

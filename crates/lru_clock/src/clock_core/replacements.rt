@@ -86,6 +86,7 @@ impl<K: Eq + Clone + Drop, V: Drop, F: Fit<K, V>> Core<K, V, F> {
         ensures pin { IfOk result.0
             (λ found. (found.1.key ≡ key.now) × F.fits key.now found.1.value) }
         ensures value { IfOk result.0 (λ found. found.1.value ≡ kept.value) }
+        ensures stored { IfOk result.0 (λ found. found.1.stored ≡ Some charge) }
         ensures book { IfOk result.0
             (λ found. found.1.book ≡ self.now.store.chronicle.first.book) }
         ensures never_stale { IfErr result.0 (λ e. e.0 ≢ Refusal.Stale) }
@@ -97,7 +98,7 @@ impl<K: Eq + Clone + Drop, V: Drop, F: Fit<K, V>> Core<K, V, F> {
             Some(evicted) => {
                 let mut left = Some(evicted);
                 let copy = Some(key_copy);
-                let stored = self.put(state, tag, key, charge, kept, copy, &mut left);
+                let stored = self.put(state, tag, key, charge, kept, copy, None, &mut left);
                 (stored, left)
             }
             None => self.replace(state, tag, key, charge, kept, key_copy),
@@ -129,6 +130,7 @@ impl<K: Eq + Clone + Drop, V: Drop, F: Fit<K, V>> Core<K, V, F> {
         ensures pin { IfOk result.0
             (λ found. (found.1.key ≡ key.now) × F.fits key.now found.1.value) }
         ensures value { IfOk result.0 (λ found. found.1.value ≡ kept.value) }
+        ensures stored { IfOk result.0 (λ found. found.1.stored ≡ Some charge) }
         ensures book { IfOk result.0
             (λ found. found.1.book ≡ self.now.store.chronicle.first.book) }
         ensures never_stale { IfErr result.0 (λ e. e.0 ≢ Refusal.Stale) }
@@ -204,11 +206,14 @@ impl<K: Eq + Clone + Drop, V: Drop, F: Fit<K, V>> Core<K, V, F> {
         ensures pin { IfOk result
             (λ filled. (filled.1.key ≡ key.now) × F.fits key.now filled.1.value) }
         ensures value { IfOk result (λ filled. filled.1.value ≡ kept.value) }
+        ensures stored { IfOk result (λ filled. filled.1.stored ≡ reservation.charge.value) }
         ensures book { IfOk result
             (λ filled. filled.1.book ≡ self.now.store.chronicle.first.book) }
     {
         let mut left = None;
-        let filled = self.store.fill(reservation, key, kept, false, &mut left);
+        let filled = self
+            .store
+            .fill(reservation, key, kept, None, false, &mut left);
         // Never `Some`: no entry was about to leave.
         if let Some(left) = left {
             drop(left.into_parts());

@@ -2,6 +2,7 @@
 //! most once more.
 ghost use Rattle.std.specs.Prelude.{◌≡◌, ◌≢◌, ◌<◌, true, IfErr, IfOk, IfSome};
 ghost use mathlib.Core.List.{IsPrefix};
+ghost use Rattle.lru_clock.specs.Hits.{ComesLast};
 
 use crate::clock_core::Invalidated;
 use crate::history::Past;
@@ -45,12 +46,15 @@ impl<K: Hash + Eq + Clone + Drop, V: Drop, F: Fit<K, V>> Shard<K, V, F> {
         key: &K,
         charge: u64,
         value: V,
-        ticket: Ticket,
+        ticket: Ticket<K, V>,
     ) -> Result<(u32, Pin<'_, K, V, F>), Refusal>
         requires fits { F.fits key.now value }
         ensures pin { IfOk result
             (λ found. (found.1.key ≡ key.now) × F.fits key.now found.1.value) }
         ensures value { IfOk result (λ found. found.1.value ≡ value) }
+        ensures stored { IfOk result (λ found. found.1.stored ≡ Some charge) }
+        ensures ticket { IfOk result
+            (λ found. ComesLast ticket.number found.1.value found.1.log) }
         ensures book { IfOk result
             (λ found. found.1.book ≡ self.now.core.store.chronicle.first.book) }
         ensures never_stale { IfErr result (λ e. e ≢ Refusal.Stale) }
@@ -63,11 +67,19 @@ impl<K: Hash + Eq + Clone + Drop, V: Drop, F: Fit<K, V>> Shard<K, V, F> {
             }
         };
         let (mut guard, mut left) = self.lock_with_room(rt, charge);
+        let number = ticket.number();
         let making = guard.makings.end(ticket);
         let (key_copy, unlisted) = checked_key(making, &kept.key);
-        let stored = self
-            .core
-            .put(&mut guard, tag, key, charge, kept, key_copy, &mut left);
+        let stored = self.core.put(
+            &mut guard,
+            tag,
+            key,
+            charge,
+            kept,
+            key_copy,
+            Some(number),
+            &mut left,
+        );
         if stored.is_ok() {
             guard.counts.makings = guard.counts.makings.wrapping_add(1);
         } else {
@@ -86,7 +98,7 @@ impl<K: Hash + Eq + Clone + Drop, V: Drop, F: Fit<K, V>> Shard<K, V, F> {
     }
 
     /// Ends a making that failed.
-    pub fn fail<R: Wait>(&self, rt: &R, ticket: Ticket) {
+    pub fn fail<R: Wait>(&self, rt: &R, ticket: Ticket<K, V>) {
         let mut guard = self.lock(rt);
         let making = guard.makings.end(ticket);
         guard.counts.failures = guard.counts.failures.wrapping_add(1);
@@ -111,6 +123,7 @@ impl<K: Hash + Eq + Clone + Drop, V: Drop, F: Fit<K, V>> Shard<K, V, F> {
         ensures pin { IfOk result
             (λ found. (found.1.key ≡ key.now) × F.fits key.now found.1.value) }
         ensures value { IfOk result (λ found. found.1.value ≡ value) }
+        ensures stored { IfOk result (λ found. found.1.stored ≡ Some charge) }
         ensures book { IfOk result
             (λ found. found.1.book ≡ self.now.core.store.chronicle.first.book) }
         ensures never_stale { IfErr result (λ e. e ≢ Refusal.Stale) }
@@ -166,7 +179,7 @@ impl<K: Hash + Eq + Clone + Drop, V: Drop, F: Fit<K, V>> Shard<K, V, F> {
         invalidated
     }
 
-    /// `invalidate`, which moves `past.since` to this call: only entries that are stored later come
+    /// `invalidate`, which moves `past.since` to this call: only makings that begin later begin
     /// after it.
     pub fn invalidate_since<R: Wait>(
         &self,

@@ -30,6 +30,7 @@ const MOST_WORDS: usize = 0x1_0000_0000;
 pub struct Reservation<K> {
     pub(super) place: u32,
     pub(super) key: Shown<Option<K>>,
+    pub(super) charge: Shown<Option<u64>>,
 }
 
 /// The seats of a shard in the order of their places, with the sum of their charges, the number of
@@ -196,10 +197,11 @@ impl<K: Eq + Drop> Seats<K> {
         tag: u32,
         key: Option<K>,
     ) -> Result<Reservation<K>, Option<K>>
-        ensures { MatchResult result
+        ensures seats { MatchResult result
             (λ r. (self.new ≡ set self.old r.place (seat_of charge tag key)) × (r.key.value ≡ key)
             × IsVacant self.old r.place)
             (λ back. (self.new ≡ self.old) × (back ≡ key)) }
+        ensures charge { IfOk result (λ r. r.charge.value ≡ Some charge) }
     {
         let place = self.vacant;
         let Some(next) = self.vacant_after(place, charge) else {
@@ -207,9 +209,13 @@ impl<K: Eq + Drop> Seats<K> {
         };
         self.vacant = next;
         self.entries = self.entries.wrapping_add(1);
-        let shown = Shown::of(&key);
+        let reservation = Reservation {
+            place,
+            key: Shown::of(&key),
+            charge: Shown::of(&Some(charge)),
+        };
         drop(self.put(place, Seat::unlisted(tag, charge, key)));
-        Ok(Reservation { place, key: shown })
+        Ok(reservation)
     }
 
     /// Gives back the place of an entry that could not be stored, and returns the copy of its key.
@@ -217,7 +223,11 @@ impl<K: Eq + Drop> Seats<K> {
     pub fn cancel(&mut self, reservation: Reservation<K>) -> Option<K>
         ensures { self.new ≡ set self.old reservation.place (seat_of 0 0 None) }
     {
-        let Reservation { place, key: _ } = reservation;
+        let Reservation {
+            place,
+            key: _,
+            charge: _,
+        } = reservation;
         self.empty(place)
     }
 

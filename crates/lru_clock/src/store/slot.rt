@@ -35,24 +35,23 @@
 //! - a pin less, by a subtraction: whoever has the pin gives it back.
 ghost use Rattle.std.specs.Prelude.{◌≡◌, ◌≢◌, ◌<◌, ◌%◌, IfErr, IfOk, IfSome, IsTrue};
 ghost use Rattle.std.specs.Prelude.{MatchOption};
-ghost use Rattle.lru_slot.specs.Words.{readers, IsTurn};
-ghost use Rattle.lru_clock.specs.History.{entry};
-ghost use Rattle.lru_clock.specs.Arrivals.{Arrives};
-ghost use Rattle.lru_clock.specs.Claims.{HasValue};
-ghost use Rattle.lru_clock.specs.Hits.{HasArrived, Sees};
+ghost use Rattle.lru_slot.specs.Words.{readers, Gains, IsTurn};
+ghost use Rattle.lru_clock.specs.Hits.{Sees};
 ghost use Rattle.lru_clock.specs.Looks.{after_look as after_look_};
 
 mod claimed;
+mod content;
 mod holds;
 mod pins;
 
-use crate::history::{Arrival, Chronicle, Count, Log, Past, Track};
+use crate::history::{Chronicle, Log, Past, Recorded, Track};
 use crate::order::{Cost, Look};
 pub use crate::store::slot::claimed::{Claimed, Taken};
+use crate::store::slot::content::Content;
 use concurrent_lru::fit::{Anything, Fit};
 use concurrent_lru::sharded::Refusal;
 use concurrent_lru::shown::Shown;
-use lru_slot::{Claim, Counted, FREE, Fits, MARKED, ONE_READER, PRESENT, TAKEN};
+use lru_slot::{Claim, Counted, FREE, MARKED, ONE_READER, PRESENT, TAKEN};
 use std::marker::{Model, PhantomData};
 use std::mem::size_of;
 
@@ -78,29 +77,11 @@ pub struct Kept<K: Eq, V, F: Fit<K, V>> {
     pub mark: PhantomData<F>,
 }
 
-/// An entry in its slot, and how it came to the slot.
-#[derive(Drop)]
-pub(super) struct Stored<K: Eq, V, F: Fit<K, V>> {
-    kept: Kept<K, V, F>,
-    arrival: Arrival<K, V>,
-}
-
-impl<K: Eq, V, F: Fit<K, V>> Fits for Stored<K, V, F> {
-    ghost use Rattle.lru_clock.specs.History.{entry};
-    ghost use Rattle.lru_clock.specs.Arrivals.{Arrives};
-
-    // The counter of the slot in the history.
-    type Tag = Count<K, V>;
-
-    ghost fits = { λ word stored. F.fits stored.kept.key stored.kept.value
-        × Arrives word stored.arrival (entry stored.kept.key stored.kept.value) };
-}
-
 /// Room for one entry. A `PRESENT` entry is found by its key; a `MARKED` one was invalidated, and
 /// stays for those who have pinned it.
 #[derive(Drop)]
 pub struct Slot<K: Eq, V, F: Fit<K, V>> {
-    cell: Counted<Option<Stored<K, V, F>>>,
+    cell: Counted<Content<K, V, F>>,
     // The slot's counter in the history.
     pub track: Track<K, V>,
     ghost same: { cell ≡ track.word },
@@ -111,18 +92,20 @@ const _: () = prove!(size_of::<Slot<u64, u64, Anything>>() == 48);
 /// A debt: a pin. `release` takes it; until then the entry is neither freed nor evicted.
 ///
 /// Clauses see the key that the caller asked for, the value, which fits that key by the mark `F`,
-/// and the prefix of the history that the call saw.
+/// the charge under which the call stored the entry, if it did (`stored`), and the prefix of the
+/// history that the call saw.
 pub struct Pin<'a, K: Eq, V, F: Fit<K, V>> {
     slot: &'a Slot<K, V, F>,
-    claim: Claim<'a, Option<Stored<K, V, F>>>,
+    claim: Claim<'a, Content<K, V, F>>,
     asked: Shown<K>,
     shown: Shown<V>,
+    stored: Shown<Option<u64>>,
     seen: Log<K, V>,
 }
 
 impl<'a, K: Eq, V, F: Fit<K, V>> Model for Pin<'a, K, V, F> {
     ghost use Rattle.std.specs.Prelude.{◌≡◌};
-    ghost use Rattle.lru_clock.specs.Claims.{HasValue};
+    ghost use Rattle.lru_clock.specs.Contents.{HasValue};
     ghost use Rattle.lru_clock.specs.Hits.{HasArrived};
     ghost use Rattle.lru_clock.specs.Pins.{PinOf};
 
@@ -131,6 +114,7 @@ impl<'a, K: Eq, V, F: Fit<K, V>> Model for Pin<'a, K, V, F> {
     ghost view = { λ p. record {
       key = p.asked.value;
       value = p.shown.value;
+      stored = p.stored.value;
       book = p.seen.book;
       log = p.seen.log;
     } };
@@ -201,16 +185,16 @@ impl<K: Eq + Drop, V: Drop, F: Fit<K, V>> Slot<K, V, F> {
     {
         let track = chronicle.begin();
         Slot {
-            cell: Counted::new(None, &track.word),
+            cell: Counted::new(Content::Empty, &track.word),
             track,
         }
     }
 
     /// Pins the entry if it is present and has this key, and gives it another chance, up to three.
     ///
-    /// With a past, pins the entry only if it came after `since`. The prefix of the history that
-    /// the pin then has extends the one that the past has seen, and the entry is in the slot at the
-    /// end of it.
+    /// With a past, pins the entry only if its making began after `since`. The prefix of the
+    /// history that the pin then has extends the one that the past has seen, and the entry is in
+    /// the slot at the end of it.
     ///
     /// Returns `Overflow` if the entry has this key and the maximum number of pins.
     #[inline(always)]
@@ -328,8 +312,8 @@ impl<K: Eq + Drop, V: Drop, F: Fit<K, V>> Slot<K, V, F> {
             }
             let (found, claim) = self.cell.turn(seen, seen + ONE_READER);
             if found == seen {
-                if let Some(stored) = claim.get() {
-                    f(&stored.kept.key, &stored.kept.value, charge, pins as u32);
+                if let Content::Entry { kept, .. } = claim.get() {
+                    f(&kept.key, &kept.value, charge, pins as u32);
                 }
                 claim.leave();
                 return;
@@ -351,7 +335,7 @@ impl<K: Eq + Drop, V: Drop, F: Fit<K, V>> Slot<K, V, F> {
         Some(Claimed {
             slot: self,
             claim,
-            is_recorded: false,
+            recorded: None,
         })
     }
 
@@ -362,12 +346,42 @@ impl<K: Eq + Drop, V: Drop, F: Fit<K, V>> Slot<K, V, F> {
             if state_of(seen) != PRESENT {
                 return;
             }
-            let (found, claim) = self.cell.turn(seen, seen + 1);
-            claim.done();
-            if found == seen {
-                self.track.leave();
+            if let Some((claim, recorded)) = self.hide(seen, seen + 1) {
+                claim.done();
+                if let Some(recorded) = recorded {
+                    self.track.leave(recorded);
+                }
                 return;
             }
+        }
+    }
+
+    // Changes the word from `seen` to `next`, with which nobody finds the entry any more. Returns
+    // the claim, and the debt of the entry, which the history has in the slot unless it was
+    // invalidated before.
+    //
+    // Returns `None` if the word has changed.
+    #[inline(always)]
+    fn hide(
+        &self,
+        seen: u64,
+        next: u64,
+    ) -> Option<(Claim<'_, Content<K, V, F>>, Option<Recorded<K, V>>)>
+        requires { IsTurn seen next }
+        ensures gains { IfSome result (λ hidden. Gains seen next hidden.0.right) }
+        ensures slot { IfSome result (λ hidden. hidden.0.tag ≡ self.now.track.word) }
+        ensures recorded { IfSome result
+            (λ hidden. IfSome hidden.1 (λ r. r ≡ self.now.track.word)) }
+    {
+        let (found, claim) = self.cell.turn(seen, next);
+        if found != seen {
+            claim.done();
+            return None;
+        }
+        if state_of(seen) == PRESENT {
+            Some((claim, Some(self.track.recorded())))
+        } else {
+            Some((claim, None))
         }
     }
 
@@ -386,16 +400,19 @@ impl<K: Eq + Drop, V: Drop, F: Fit<K, V>> Slot<K, V, F> {
             return (Look::Pinned, None);
         }
         let next = after_look(seen, cost);
+        if next == TAKEN {
+            return match self.take_at(place, seen) {
+                Some(taken) => (Look::Unused, Some(taken)),
+                None => (Look::Pinned, None),
+            };
+        }
         let (found, claim) = self.cell.turn(seen, next);
-        if found != seen {
-            claim.done();
-            return (Look::Pinned, None);
+        claim.done();
+        if found == seen {
+            (Look::Used, None)
+        } else {
+            (Look::Pinned, None)
         }
-        if next != TAKEN {
-            claim.done();
-            return (Look::Used, None);
-        }
-        (Look::Unused, Some(self.taken(place, seen, claim)))
     }
 
     /// Takes out the entry, whatever its chances, if nobody has pinned it.
@@ -431,75 +448,14 @@ impl<K: Eq + Drop, V: Drop, F: Fit<K, V>> Slot<K, V, F> {
         ensures place { IfSome result (λ taken. taken.place ≡ place) }
         ensures book { IfSome result (λ taken. taken.claimed ≡ self.now.track.word.book) }
     {
-        let (found, claim) = self.cell.turn(seen, TAKEN);
-        if found != seen {
-            claim.done();
-            return None;
-        }
-        Some(self.taken(place, seen, claim))
-    }
-
-    // Returns the debt of the entry of this slot, whose word was `seen`, without a hold, before
-    // this caller took it.
-    fn taken<'a>(
-        &'a self,
-        place: u32,
-        seen: u64,
-        claim: Claim<'a, Option<Stored<K, V, F>>>,
-    ) -> Taken<'a, K, V, F>
-        requires right { claim.right ≡ 2 }
-        requires unheld { seen < 17179869184 }
-        requires slot { claim.tag ≡ self.now.track.word }
-        ensures place { result.place ≡ place }
-        ensures book { result.claimed ≡ self.now.track.word.book }
-    {
-        Taken {
+        let (claim, recorded) = self.hide(seen, TAKEN)?;
+        Some(Taken {
             place,
             claimed: Claimed {
                 slot: self,
                 claim,
-                is_recorded: state_of(seen) == PRESENT,
+                recorded,
             },
-        }
-    }
-}
-
-impl<K: Eq, V, F: Fit<K, V>> Stored<K, V, F> {
-    // Returns the entry that was in a slot.
-    fn into_kept(stored: Option<Self>) -> Option<Kept<K, V, F>>
-    where
-        K: Drop,
-        V: Drop,
-    {
-        let Stored { kept, arrival: _ } = stored?;
-        Some(kept)
-    }
-
-    // Shows the value, with a prefix of the history, if the entry has this key. With a past, the
-    // entry must also have come after `since`, and still be in its slot at the end of the prefix.
-    #[inline(always)]
-    fn confirm(
-        &self,
-        key: &K,
-        track: &Track<K, V>,
-        past: &Option<Past<K, V>>,
-    ) -> Option<(Shown<V>, Log<K, V>)>
-        requires fits { F.fits self.now.kept.key self.now.kept.value }
-        requires stored { Arrives track.now.word self.now.arrival
-            (entry self.now.kept.key self.now.kept.value) }
-        requires book { IfSome past.now (λ p. p.book ≡ track.now.word.book) }
-        ensures value { IfSome result (λ found. found.0.value ≡ self.now.kept.value) }
-        ensures fits { IfSome result (λ found. F.fits key.now found.0.value) }
-        ensures book { IfSome result (λ found. found.1.book ≡ track.now.word.book) }
-        ensures arrived { IfSome result
-            (λ found. HasArrived K.eq found.1.log key.now found.0.value) }
-        ensures since { IfSome past.now (λ past. IfSome result (λ found. Sees K.eq past key.now
-            found.0.value found.1.book found.1.log)) }
-    {
-        if self.kept.key == *key {
-            let seen = self.arrival.confirm(track, past)?;
-            return Some((Shown::of(&self.kept.value), seen));
-        }
-        None
+        })
     }
 }

@@ -37,7 +37,7 @@ impl<R: Wait> Bank<R> {
     }
 }
 
-/// Returns the balance of an account: from the cache, if it was stored there after the last
+/// Returns the balance of an account: from the cache, if the bank was asked for it after the last
 /// invalidation with this past, and otherwise from the bank, which one caller asks for all.
 fn balance<R: Wait, S: BuildHasher>(
     cache: &Cache<u64, u64, R, S>,

@@ -1,9 +1,11 @@
 //! Slots that their holder alone may read and write.
 ghost use Rattle.std.specs.Prelude.{◌≡◌, ◌≤◌, true, IfOk};
 ghost use Rattle.lru_clock.specs.History.{turns};
+ghost use Rattle.lru_clock.specs.Hits.{ComesLast};
 
-use crate::history::Log;
-use crate::store::slot::{Kept, Pin, Slot, Stored};
+use crate::history::{Log, Recorded};
+use crate::store::slot::content::Content;
+use crate::store::slot::{Kept, Pin, Slot};
 use concurrent_lru::fit::Fit;
 use concurrent_lru::shown::Shown;
 use lru_slot::{Claim, FREE, MARKED, ONE_READER, PRESENT};
@@ -13,20 +15,22 @@ use std::marker::Model;
 /// if there is one. `fill` or `free` takes it. Clauses see the book of the slot's history.
 pub struct Claimed<'a, K: Eq, V, F: Fit<K, V>> {
     pub(super) slot: &'a Slot<K, V, F>,
-    pub(super) claim: Claim<'a, Option<Stored<K, V, F>>>,
-    // Whether the history has an entry in the slot. An invalidated one has already left it.
-    pub(super) is_recorded: bool,
+    pub(super) claim: Claim<'a, Content<K, V, F>>,
+    // The debt of the entry that the history has in the slot. An invalidated one has already left.
+    pub(super) recorded: Option<Recorded<K, V>>,
 }
 
 impl<'a, K: Eq, V, F: Fit<K, V>> Model for Claimed<'a, K, V, F> {
-    ghost use Rattle.std.specs.Prelude.{◌≡◌};
+    ghost use Rattle.std.specs.Prelude.{◌≡◌, IfSome};
     ghost use Rattle.logbook.specs.Pages.{Book};
 
     ghost Value = { Book };
 
     ghost view = { λ c. c.slot.now.track.word.book };
 
-    ghost invariant = { λ c. (c.claim.right ≡ 2) × (c.claim.tag ≡ c.slot.now.track.word) };
+    ghost invariant = { λ c. (c.claim.right ≡ 2)
+        × (c.claim.tag ≡ c.slot.now.track.word)
+        × IfSome c.recorded (λ r. r ≡ c.slot.now.track.word) };
 }
 
 /// A debt: an entry that was taken out, and whose charge still counts. `Seats::vacate` takes it. So
@@ -46,16 +50,19 @@ impl<'a, K: Eq, V, F: Fit<K, V>> Taken<'a, K, V, F> {
 }
 
 impl<'a, K: Eq + Drop, V: Drop, F: Fit<K, V>> Claimed<'a, K, V, F> {
-    /// Stores an entry in the slot, and pins it. If the entry is already invalidated, it leaves the
-    /// history at once, and nobody else can pin it. Returns the pin, and the entry that has left.
+    /// Stores an entry in the slot, and pins it. `charge` is the charge that counts for it. If the
+    /// entry is already invalidated, it leaves the history at once, and nobody else can pin it.
+    /// Returns the pin, and the entry that has left.
     ///
     /// If the new entry cannot be stored, returns it in place of the pin, and frees the slot.
     pub(in crate::store) fn fill(
         self,
         key: &K,
         kept: Kept<K, V, F>,
+        charge: Shown<Option<u64>>,
         is_invalidated: bool,
         number: u64,
+        ticket: u64,
         seen: &Log<K, V>,
     ) -> (
         Result<Pin<'a, K, V, F>, Kept<K, V, F>>,
@@ -66,37 +73,53 @@ impl<'a, K: Eq + Drop, V: Drop, F: Fit<K, V>> Claimed<'a, K, V, F> {
         requires equal { K.eq kept.key key.now ≡ true }
         requires book { seen.now.book ≡ self }
         requires drawn { number ≤ turns 1 seen.now.log }
+        requires begun { ticket ≤ number }
         ensures pin { IfOk result.0 (λ p. (p.key ≡ key.now) × F.fits key.now p.value) }
         ensures value { IfOk result.0 (λ p. p.value ≡ kept.value) }
+        ensures stored { IfOk result.0 (λ p. p.stored ≡ charge.value) }
+        ensures ticket { IfOk result.0 (λ p. ComesLast ticket p.value p.log) }
         ensures book { IfOk result.0 (λ p. p.book ≡ self.entry) }
     {
-        // Always `Some`, since nobody else changes the counter of a slot without the lock. The
-        // entry that is about to leave, if there is one, leaves the history in the same step.
-        let Some(arrival) = self.slot.track.come(number, seen, &kept.key, &kept.value) else {
-            return (Err(kept), self.free());
-        };
         let Self {
             slot,
             claim,
-            is_recorded: _,
+            recorded,
         } = self;
+        // Always `Ok`, since nobody else changes the counter of a slot without the lock. The entry
+        // that is about to leave, if there is one, leaves the history in the same step.
+        let (arrival, age, recorded) = match slot
+            .track
+            .come(number, ticket, seen, &kept.key, &kept.value, recorded)
+        {
+            Ok(came) => came,
+            Err(recorded) => {
+                let back = Claimed {
+                    slot,
+                    claim,
+                    recorded,
+                };
+                return (Err(kept), back.free());
+            }
+        };
         let shown = Shown::of(&kept.value);
         let log = arrival.log.again();
-        let stored = Stored { kept, arrival };
+        let content = Content::Entry { age, kept, arrival };
         let (old, claim) = if is_invalidated {
-            slot.track.leave();
-            claim.put_pinned(Some(stored), MARKED + ONE_READER)
+            slot.track.leave(recorded);
+            claim.put_pinned(content, MARKED + ONE_READER)
         } else {
-            claim.put_pinned(Some(stored), PRESENT + ONE_READER)
+            recorded.keep();
+            claim.put_pinned(content, PRESENT + ONE_READER)
         };
         let pin = Pin {
             slot,
             claim,
             asked: Shown::of(key),
             shown,
+            stored: charge,
             seen: log,
         };
-        (Ok(pin), Stored::into_kept(old))
+        (Ok(pin), old.into_kept())
     }
 
     /// Frees the slot, and returns the entry that has left.
@@ -104,11 +127,11 @@ impl<'a, K: Eq + Drop, V: Drop, F: Fit<K, V>> Claimed<'a, K, V, F> {
         let Self {
             slot,
             claim,
-            is_recorded,
+            recorded,
         } = self;
-        if is_recorded {
-            slot.track.leave();
+        if let Some(recorded) = recorded {
+            slot.track.leave(recorded);
         }
-        Stored::into_kept(claim.put(None, FREE))
+        claim.put(Content::Empty, FREE).into_kept()
     }
 }

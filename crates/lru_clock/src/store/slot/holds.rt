@@ -8,9 +8,10 @@
 //! more than a pin.
 ghost use Rattle.std.specs.Prelude.{◌≡◌, IfErr};
 
+use crate::store::slot::content::Content;
 use crate::store::slot::{
-    MOST_CHANCES, MOST_PINS, MOST_USED, ONE_CHANCE, ONE_HOLD, Released, Slot, Stored, is_kept,
-    pins_of, state_of,
+    MOST_CHANCES, MOST_PINS, MOST_USED, ONE_CHANCE, ONE_HOLD, Released, Slot, is_kept, pins_of,
+    state_of,
 };
 use concurrent_lru::fit::Fit;
 use concurrent_lru::sharded::Refusal;
@@ -67,18 +68,18 @@ impl<K: Eq + Drop, V: Copy + Drop, F: Fit<K, V>> Slot<K, V, F> {
     // Ends a claim that came with a hold. Returns the value if the entry has this key, and else
     // ends the hold too.
     #[inline(always)]
-    fn value_of(&self, claim: Claim<'_, Option<Stored<K, V, F>>>, key: &K) -> Option<V>
+    fn value_of(&self, claim: Claim<'_, Content<K, V, F>>, key: &K) -> Option<V>
         requires { claim.right ≡ 1 }
     {
         let value = match claim.get() {
-            Some(stored) => {
-                if stored.kept.key == *key {
-                    Some(stored.kept.value)
+            Content::Entry { kept, .. } => {
+                if kept.key == *key {
+                    Some(kept.value)
                 } else {
                     None
                 }
             }
-            None => None,
+            Content::Empty => None,
         };
         claim.leave();
         if value.is_none() {
@@ -104,8 +105,8 @@ impl<K: Eq + Drop, V: Copy + Drop, F: Fit<K, V>> Slot<K, V, F> {
             let (found, claim) = self.cell.turn(seen, seen + ONE_HOLD + ONE_READER);
             if found == seen {
                 let value = match claim.get() {
-                    Some(stored) => Some(stored.kept.value),
-                    None => None,
+                    Content::Entry { kept, .. } => Some(kept.value),
+                    Content::Empty => None,
                 };
                 claim.leave();
                 return Ok(value);

@@ -1,10 +1,11 @@
 //! Pins, each of which keeps its entry until it is released.
 ghost use Rattle.std.specs.Prelude.{◌≡◌, ◌<◌, IfErr, IfOk, IfSome, IsTrue};
-ghost use Rattle.lru_clock.specs.Claims.{HasValue};
+ghost use Rattle.lru_clock.specs.Contents.{HasValue};
 ghost use Rattle.lru_clock.specs.Hits.{HasArrived, Sees};
 
 use crate::history::{Log, Past};
-use crate::store::slot::{Pin, Released, Slot, Stored, pins_of, state_of};
+use crate::store::slot::content::Content;
+use crate::store::slot::{Pin, Released, Slot, pins_of, state_of};
 use concurrent_lru::fit::Fit;
 use concurrent_lru::sharded::Refusal;
 use concurrent_lru::shown::Shown;
@@ -12,19 +13,19 @@ use lru_slot::{Claim, MARKED, ONE_READER, PRESENT};
 
 // Returns whether two claims of one slot are of the same entry, by the numbers of the arrivals.
 fn have_one_entry<K: Eq, V, F: Fit<K, V>>(
-    claim: &Claim<'_, Option<Stored<K, V, F>>>,
-    other: &Claim<'_, Option<Stored<K, V, F>>>,
+    claim: &Claim<'_, Content<K, V, F>>,
+    other: &Claim<'_, Content<K, V, F>>,
 ) -> bool
     requires read { (claim.now.right ≡ 1) × (other.now.right ≡ 1) }
     requires slot { claim.now.tag ≡ other.now.tag }
     ensures { IsTrue result → (v : V) → HasValue claim.now.value v → HasValue other.now.value v }
 {
     match claim.get() {
-        Some(stored) => match other.get() {
-            Some(found) => stored.arrival.is(&found.arrival),
-            None => false,
+        Content::Entry { arrival, .. } => match other.get() {
+            Content::Entry { arrival: found, .. } => arrival.is(found),
+            Content::Empty => false,
         },
-        None => false,
+        Content::Empty => false,
     }
 }
 
@@ -34,7 +35,7 @@ impl<'a, K: Eq, V, F: Fit<K, V>> Pin<'a, K, V, F> {
     #[inline(always)]
     pub(super) fn of_key(
         slot: &'a Slot<K, V, F>,
-        claim: Claim<'a, Option<Stored<K, V, F>>>,
+        claim: Claim<'a, Content<K, V, F>>,
         key: &K,
         past: &Option<Past<K, V>>,
         is_too_many: bool,
@@ -50,11 +51,7 @@ impl<'a, K: Eq, V, F: Fit<K, V>> Pin<'a, K, V, F> {
             (λ p. Sees K.eq past key.now p.value p.book p.log))) }
         ensures refused { IfErr result (λ e. e ≡ Refusal.Overflow) }
     {
-        let found = match claim.get() {
-            Some(stored) => stored.confirm(key, &slot.track, past),
-            None => None,
-        };
-        match found {
+        match claim.get().confirm(key, &slot.track, past) {
             Some((shown, seen)) => {
                 if is_too_many {
                     claim.leave();
@@ -65,6 +62,7 @@ impl<'a, K: Eq, V, F: Fit<K, V>> Pin<'a, K, V, F> {
                     claim,
                     asked: Shown::of(key),
                     shown,
+                    stored: Shown::of(&None),
                     seen,
                 }))
             }
@@ -82,8 +80,8 @@ impl<'a, K: Eq, V, F: Fit<K, V>> Pin<'a, K, V, F> {
         ensures fits { F.fits self.now.key result.now }
     {
         match self.claim.get() {
-            Some(stored) => &stored.kept.value,
-            None => unreachable!(),
+            Content::Entry { kept, .. } => &kept.value,
+            Content::Empty => unreachable!(),
         }
     }
 
@@ -103,6 +101,7 @@ impl<'a, K: Eq, V, F: Fit<K, V>> Pin<'a, K, V, F> {
         requires limit { most_pins < 1073741823 }
         ensures key { IfOk result (λ p. p.key ≡ self.now.key) }
         ensures value { IfOk result (λ p. p.value ≡ self.now.value) }
+        ensures stored { IfOk result (λ p. p.stored ≡ self.now.stored) }
         ensures fits { IfOk result (λ p. F.fits p.key p.value) }
         ensures book { IfOk result (λ p. p.book ≡ self.now.book) }
         ensures refused { IfErr result (λ e. e ≡ Refusal.Overflow) }
@@ -123,6 +122,7 @@ impl<'a, K: Eq, V, F: Fit<K, V>> Pin<'a, K, V, F> {
                         claim,
                         asked: self.asked.again(),
                         shown: self.shown.again(),
+                        stored: self.stored.again(),
                         seen: self.seen.again(),
                     });
                 }
@@ -143,6 +143,7 @@ impl<'a, K: Eq, V, F: Fit<K, V>> Pin<'a, K, V, F> {
             claim,
             asked: _,
             shown: _,
+            stored: _,
             seen: _,
         } = self;
         let seen = claim.leave();

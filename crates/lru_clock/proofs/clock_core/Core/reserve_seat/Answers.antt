@@ -10,9 +10,9 @@ returns-in-Ok-clause-charged g c =
     let place = c.in-Ok.reservation.place in
     let roomy = c.admit.new.state.seats in
     after_room c.args.state.now.seats roomy c.reserve.new.self c.args.charge place c.admit.ensures.total
-    (subst (Charges c.args.charge place roomy) (sym c.in-Ok.ensures.0) (charged roomy place (seat c.args.charge c.args.tag c.args.key_copy) c.in-Ok.ensures.2))
+    (subst (Charges c.args.charge place roomy) (sym c.in-Ok.ensures.seats.0) (charged roomy place (seat c.args.charge c.args.tag c.args.key_copy) c.in-Ok.ensures.seats.2))
 
 -- The place was vacant, or was added as such.
 pub returns-in-Ok-clause-seats : goal.returns-in-Ok-clause-seats
 returns-in-Ok-clause-seats g c =
-    (c.admit.new.state.seats, c.admit.ensures.seats, c.in-Ok.ensures.2, (seat c.args.charge c.args.tag c.args.key_copy, c.in-Ok.ensures.0))
+    (c.admit.new.state.seats, c.admit.ensures.seats, c.in-Ok.ensures.seats.2, (seat c.args.charge c.args.tag c.args.key_copy, c.in-Ok.ensures.seats.0))

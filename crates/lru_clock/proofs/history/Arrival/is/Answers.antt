@@ -6,9 +6,9 @@ use Rattle.lru_clock.proofs.history.Arrival.is.Goals as goal
 
 -- Both begin one history.
 pub returns : goal.returns
-returns g c = λ is w e f at bt.
+returns g c = λ is w n m e f at bt.
     let a = c.args.self.now in
     let b = c.args.other.now in
     let all = c.learn.new.self.log in
     let one : IsPrefix a.log.log all = rw (sym (ap (λ s. s.log) c.again-both.ensures)) c.learn.ensures.2 in
-    one_arrival w a b e f all at bt (exact_unsigned_eq a.number b.number is) one c.learn.ensures.3
+    one_arrival w a b n m e f all at bt (exact_unsigned_eq a.number b.number is) one c.learn.ensures.3

@@ -12,13 +12,13 @@ returns-clause-came g c = λ e at.
     let past = c.self.inside in
     let seen = c.look-number.result.1.log in
     let all = c.learn.new.self.log in
-    let passed : past.number < a.number = omega (arith, c.if-arrival-self.false) in
+    let passed : past.number < at.ticket = omega (arith, c.if-ticket-self.false, c.in_ok-ticket.ensures w e at) in
     let count : turns w.key seen ≡ a.number = omega (arith, c.look-number.ensures.found, c.if-number-arrival.false) in
     let now : IsPrefix seen all = rw (sym (ap (λ s. s.log) c.again-both.ensures)) c.learn.ensures.2 in
     let since = prefix_trans past.since.log past.seen.log all c.self.invariant.1 (prefix_trans past.seen.log seen all c.look-number.ensures.later now) in
-    subst (λ l. HasCome w.key l e seen) (ap (λ p. p.since) c.self.view_is) (has_come w a e past.since.log seen all past.number at c.self.invariant.2 passed count since now c.learn.ensures.3)
+    subst (λ l. HasCome w.key l e seen) (ap (λ p. p.since) c.self.view_is) (has_come w a c.args.age e past.since.log seen all past.number at c.self.invariant.2 passed count since now c.learn.ensures.3)
 
 pub returns-clause-comes : goal.returns-clause-comes
 returns-clause-comes g c = λ e at.
     let came = returns-clause-came g c e at in
-    (came.before, came.skipped, came.came)
+    (came.before, came.skipped, came.ticket, came.came)

@@ -10,7 +10,7 @@ invariant_of-pin g c =
     let E = g.K.PartialEq.eq in
     let w = c.self.inside.slot.now.track.word in
     let log = c.again-log.result.log in
-    let came = comes_last w c.in-Some.arrival _ log (ap (λ s. s.log) c.again-log.ensures) c.in-Some.ensures.arrives in
+    let came = comes_last w c.in-Ok.came.0 c.in-Ok.came.1 _ log (ap (λ s. s.log) c.again-log.ensures) c.in-Ok.ensures.arrives in
     let found : HasArrived E log c.args.key.now c.of-shown.result.value = arrived_with E w.key c.args.key.now c.args.kept.key c.of-shown.result.value c.args.kept.value log came c.of-shown.ensures c.requires.equal in
     let arrived : HasArrived E log c.of.result.value c.of-shown.result.value = subst (λ k. HasArrived E log k c.of-shown.result.value) (sym c.of.ensures) found in
     elim c.if-is_invalidated.branch [
