@@ -154,6 +154,8 @@ enum {
     LRU_GONE = 22,   /* clock: an entry has left, and is told; call again for the next */
     LRU_LAST = 23,   /* reader: done; the entry was invalidated, and this was its last pin: collect
                         it, under the lock */
+    LRU_REPLACED = 24, /* insert of a clock: done, as with LRU_DONE; another entry has left for the
+                          new one, the key's or one that was evicted, and is told */
 
     /* Refusals of the cache. */
     LRU_OVERFLOW = 7, /* a number would overflow: the total of charges, the stamps or the pins */
@@ -278,10 +280,11 @@ typedef struct lru_reader {
 } lru_reader;
 
 typedef struct lru_found {
-    uint64_t value; /* LRU_HIT, and LRU_DONE of add and ready: the value. LRU_MAKE: the ticket.
-                       LRU_NUMBER: the number. */
+    uint64_t value; /* LRU_HIT, LRU_REPLACED, and LRU_DONE of add, insert and ready: the value.
+                       LRU_MAKE: the ticket. LRU_NUMBER: the number. */
     lru_code code;
-    uint32_t place; /* LRU_HIT, and LRU_DONE of add and ready: names the pin */
+    uint32_t place; /* LRU_HIT, LRU_REPLACED, and LRU_DONE of add, insert and ready: names the
+                       pin */
 } lru_found;
 
 /* An entry that left a clock. */
@@ -297,7 +300,7 @@ typedef struct lru_left {
 typedef struct lru_clock_counts {
     uint64_t makings;    /* makings whose value was stored: LRU_DONE of ready */
     uint64_t failures;   /* makings that ended otherwise: by fail, or refused by ready */
-    uint64_t insertions; /* entries that were added: LRU_DONE of add */
+    uint64_t insertions; /* entries that were added or inserted */
     uint64_t evictions;  /* entries that have left, by any call */
     uint64_t entries;    /* as lru_clock_len tells it */
     uint64_t charge;     /* as lru_clock_total tells it */
@@ -606,6 +609,17 @@ bool lru_chain_is_empty(lru_chain *chain);
  * and deletes what was kept once the mutex is released. If another thread has added the key
  * meanwhile, it is told LRU_HIT with the other value, pinned, and its own was not taken.
  *
+ * A new value of a key is inserted, which replaces the key's entry and makes room for itself. After
+ * LRU_GONE another entry has to leave first, and the call is made again:
+ *
+ *     do {
+ *         pthread_mutex_lock(&mutex);
+ *         found = lru_clock_insert(&clock, hash, first, second, charge, value, false, &left);
+ *         pthread_mutex_unlock(&mutex);
+ *         if (found.code == LRU_GONE || found.code == LRU_REPLACED)
+ *             delete_value(left.value);
+ *     } while (found.code == LRU_GONE);
+ *
  * Threads that miss the same key at once can leave its value to one of them, the maker. It holds no
  * mutex while it makes the value, and the others wait, here for a condition variable:
  *
@@ -632,9 +646,9 @@ bool lru_chain_is_empty(lru_chain *chain);
  *     pthread_mutex_unlock(&mutex);
  *
  * After LRU_HIT and LRU_DONE it has a pin of the entry. Any thread that has the ticket may end the
- * making. If the key is erased or added meanwhile, later callers make another value, or find the
- * one that was added, and the maker's value is for itself alone: `ready` stores and pins it as any
- * other, and giving that pin back is told LRU_LAST.
+ * making. If the key is erased, added or inserted meanwhile, later callers make another value, or
+ * find the one that was stored, and the maker's value is for itself alone: `ready` stores and pins
+ * it as any other, and giving that pin back is told LRU_LAST.
  *
  * A pin is named by the place of its entry, and the rules 7 and 8 above hold for it: it is given
  * back once, with any reader of its clock. If it is given back twice, the second call is told
@@ -648,10 +662,12 @@ bool lru_chain_is_empty(lru_chain *chain);
  * Less is proved of these calls than of the others: that a call on a handle that is not open
  * changes nothing, that at most one entry leaves in a call, which tells it, that none leaves while
  * its slot counts a pin, that a strict add or ready is refused exactly if the charge would take the
- * total above the capacity, that no look-up under the mutex finds a key after it was erased, that
- * nobody is told LRU_MAKE while a caller makes the value of the key, unless it was erased or added
- * meanwhile, and that each ticket is accepted once. That a look-up counts its pin, that each value
- * is told to leave once, and that nobody finds a value that was made for an erased key, is tested.
+ * total above the capacity, that an insert that is refused changes no entry, that no look-up under
+ * the mutex finds a key after it was erased, that nobody is told LRU_MAKE while a caller makes the
+ * value of the key, unless it was erased, added or inserted meanwhile, and that each ticket is
+ * accepted once. That a look-up counts its pin, that each value is told to leave once, that an
+ * insert replaces the key's entry, and that nobody finds a value that was made for an erased key,
+ * is tested.
  *
  * Giving a pin back evicts nothing. If the pinned entries took the total above the capacity, the
  * next make_room evicts down to it. */
@@ -681,7 +697,7 @@ lru_code lru_reader_new(lru_clock *clock, lru_reader *out);
 lru_code lru_reader_free(lru_reader *reader);
 
 /* Pins the entry of a key. While another thread changes the clock, it may miss an entry that is
- * there; lru_clock_find and lru_clock_add, under the mutex, miss none.
+ * there; the calls under the mutex miss none.
  *
  * Does not allocate. LRU_HIT with the value and the place; LRU_MISSED; LRU_OVERFLOW if the entry
  * has as many pins as it may have, about a billion; LRU_CLOSED. */
@@ -717,11 +733,29 @@ lru_code lru_clock_make_room(lru_clock *clock, uint64_t charge, lru_left *left);
 lru_found lru_clock_add(lru_clock *clock, uint64_t hash, uint64_t first, uint64_t second,
                         uint64_t charge, uint64_t value, bool strict);
 
+/* Stores an entry in place of the key's, and pins it. Makes room for it, by at most one entry that
+ * leaves. If another has to leave first, nothing is stored: call again, at once or after the mutex
+ * was released. The key's entry leaves last. Until then its charge counts as room, unless it is
+ * pinned: then it stays, as after an erase. If all other entries are pinned, the total may be above
+ * the capacity then, unless the call is strict. If a value is being made for the key, nobody waits
+ * for it any more after LRU_DONE and LRU_REPLACED: wake the threads that do.
+ *
+ * A call that is refused changes no entry: the key has the one that it had, unless a call before it
+ * that was told LRU_GONE has evicted that, as any other. A strict call may visit every place.
+ *
+ * Allocates, unless the clock has had more entries at once before. LRU_DONE with the value and the
+ * place; LRU_REPLACED with them, and with the entry that left in `left`; LRU_GONE with the entry
+ * that left in `left`: call again; LRU_NO_CHARGE; LRU_FULL if `strict`, and the charge and those of
+ * the pinned entries add up to more than the capacity; LRU_MEMORY; LRU_OVERFLOW; LRU_CLOSED. The
+ * value is taken with LRU_DONE and LRU_REPLACED only. */
+lru_found lru_clock_insert(lru_clock *clock, uint64_t hash, uint64_t first, uint64_t second,
+                           uint64_t charge, uint64_t value, bool strict, lru_left *left);
+
 /* Pins the entry of a key; or begins the making of its value: the caller makes the value now, with
  * or without the mutex, and then calls ready or fail with the ticket; or tells that another caller
  * is making it: wait until a making of this clock has ended, and call again. Nothing wakes the
- * threads that wait; a making may also end, for those that wait, with an erase or an add of the
- * key. Evicts nothing. The charge is not kept: pass the one that is expected, or 1.
+ * threads that wait; a making may also end, for those that wait, with an erase, an add or an insert
+ * of the key. Evicts nothing. The charge is not kept: pass the one that is expected, or 1.
  *
  * Allocates, unless as many makings have gone on at once before. LRU_HIT with the value and the
  * place; LRU_MAKE with the ticket as the value; LRU_WAIT; LRU_NO_CHARGE; LRU_MEMORY; LRU_OVERFLOW
@@ -731,9 +765,9 @@ lru_found lru_clock_begin(lru_clock *clock, uint64_t hash, uint64_t first, uint6
                           uint64_t charge);
 
 /* Ends a making, adds an entry of its key with this value and pins it. The hash is that of begin;
- * the charge may be another. Evicts nothing: make room first, as for add. If the key was erased or
- * added meanwhile, the entry is invalidated already, and only this caller gets it: giving back its
- * pin is told LRU_LAST.
+ * the charge may be another. Evicts nothing: make room first, as for add. If the key was erased,
+ * added or inserted meanwhile, the entry is invalidated already, and only this caller gets it:
+ * giving back its pin is told LRU_LAST.
  *
  * Allocates, unless the clock has had as many entries at once before. LRU_DONE with the value and
  * the place; LRU_NO_CHARGE: the making goes on; LRU_FULL if `strict` and the charge would take the
@@ -787,7 +821,7 @@ lru_code lru_clock_prune(lru_clock *clock, uint32_t *next, lru_left *left);
  * Does not allocate. LRU_DONE; LRU_CLOSED. */
 lru_code lru_clock_set_capacity(lru_clock *clock, uint64_t capacity);
 
-/* Makes room in memory for as many entries, so that `add` and `ready` allocate nothing
+/* Makes room in memory for as many entries, so that `add`, `insert` and `ready` allocate nothing
  * while there are fewer. Never gives memory back.
  *
  * Allocates about 120 bytes for each entry, page by page. LRU_DONE; LRU_OVERFLOW, at once, if

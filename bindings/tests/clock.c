@@ -1,8 +1,8 @@
 /* Tests the clock of lru.h: what each call answers, with one thread; that nothing is lost where
  * memory is refused; that each value is deleted once, and none while it is pinned, while eight
- * threads look up, insert and erase; and that each key has one maker at a time, whose value the
- * others get, while eight threads make, fail and erase. Prints each failure, and exits with 1 if
- * there is any.
+ * threads look up, add, insert and erase; and that each key has one maker at a time, whose value
+ * the others get, while eight threads make, fail and erase. Prints each failure, and exits with 1
+ * if there is any.
  *
  * The linker puts the functions below before those of the C library (--wrap). */
 #include <inttypes.h>
@@ -68,6 +68,7 @@ static void test_answers(void) {
     CHECK(lru_reader_unpin(&reader, 0), LRU_CLOSED);
     CHECK(lru_clock_make_room(&clock, 1, &left), LRU_CLOSED);
     CHECK(lru_clock_add(&clock, 0, 0, 0, 1, 0, false).code, LRU_CLOSED);
+    CHECK(lru_clock_insert(&clock, 0, 0, 0, 1, 0, false, &left).code, LRU_CLOSED);
     CHECK(lru_clock_release_and_evict(&clock, 0, &left), LRU_CLOSED);
     CHECK(lru_clock_reserve(&clock, 1), LRU_CLOSED);
     CHECK(lru_clock_stats(&clock, &counts), LRU_CLOSED);
@@ -228,6 +229,116 @@ static void test_limits(void) {
     CHECK(lru_reader_free(&reader), LRU_DONE);
 }
 
+static lru_found inserts(lru_clock *clock, uint64_t key, uint64_t charge, uint64_t value,
+                         bool strict, lru_left *left) {
+    return lru_clock_insert(clock, hash_of(key), key, ~key, charge, value, strict, left);
+}
+
+/* Checks that a call stored this value and told that an entry left for it, and gives back its
+ * pin. */
+static void replaced(lru_reader *reader, lru_found found, uint64_t value) {
+    CHECK(found.code, LRU_REPLACED);
+    CHECK(found.value, value);
+    CHECK(lru_reader_unpin(reader, found.place), LRU_DONE);
+}
+
+static bool is_entry(const lru_left *left, uint64_t key, uint64_t value) {
+    return left->first == key && left->second == ~key && left->value == value;
+}
+
+static void test_inserts(void) {
+    lru_clock clock = {0};
+    lru_reader reader = {0};
+    lru_left left = {1, 2, 3};
+    lru_clock_counts counts;
+    lru_found found, old;
+    uint64_t evicted;
+    CHECK(lru_clock_new(10, &clock), LRU_DONE);
+    CHECK(lru_reader_new(&clock, &reader), LRU_DONE);
+    CHECK(inserts(&clock, 1, 0, 10, false, &left).code, LRU_NO_CHARGE);
+
+    /* a key that has no entry */
+    found = inserts(&clock, 1, 4, 10, true, &left);
+    CHECK(found.code, LRU_DONE);
+    CHECK(found.value, 10);
+    CHECK(lru_clock_pinned_charge(&clock).value, 4);
+    CHECK(lru_reader_unpin(&reader, found.place), LRU_DONE);
+    CHECK(lru_reader_unpin(&reader, found.place), LRU_STALE);
+    CHECK(left.first == 1 && left.second == 2 && left.value == 3, true);
+
+    /* the entry that a key has leaves, or is collected after its last pin */
+    replaced(&reader, inserts(&clock, 1, 5, 11, true, &left), 11);
+    CHECK(is_entry(&left, 1, 10), true);
+    CHECK(lru_clock_total(&clock).value, 5);
+    old = lru_reader_pin(&reader, hash_of(1), 1, ~1ul);
+    CHECK(old.value, 11);
+    found = inserts(&clock, 1, 4, 12, true, &left);
+    CHECK(found.code, LRU_DONE);
+    CHECK(lru_clock_total(&clock).value, 9);
+    CHECK(lru_reader_pin_at(&reader, old.place).value, 11);
+    CHECK(lru_reader_unpin(&reader, old.place), LRU_DONE);
+    CHECK(lru_reader_unpin(&reader, old.place), LRU_LAST);
+    CHECK(lru_clock_collect(&clock, old.place, &left), LRU_GONE);
+    CHECK(is_entry(&left, 1, 11), true);
+    CHECK(lru_reader_unpin(&reader, found.place), LRU_DONE);
+    CHECK(lru_clock_find(&clock, hash_of(1), 1, ~1ul).value, 12);
+    CHECK(lru_reader_unpin(&reader, found.place), LRU_DONE);
+
+    /* one entry leaves for another; if two have to, the call is made twice */
+    adds(&clock, &reader, 2, 4);
+    replaced(&reader, inserts(&clock, 3, 4, 30, true, &left), 30);
+    CHECK(is_entry(&left, 1, 12) || is_entry(&left, 2, 20), true);
+    CHECK(lru_clock_total(&clock).value, 8);
+    CHECK(inserts(&clock, 4, 10, 40, true, &left).code, LRU_GONE);
+    evicted = left.first;
+    CHECK(lru_clock_len(&clock).value, 1);
+    CHECK(lru_clock_find(&clock, hash_of(4), 4, ~4ul).code, LRU_MISSED);
+    replaced(&reader, inserts(&clock, 4, 10, 40, true, &left), 40);
+    CHECK(left.first == evicted, false);
+    CHECK(lru_clock_len(&clock).value, 1);
+
+    /* the charge of the entry that the key has is room, unless it is pinned */
+    replaced(&reader, inserts(&clock, 4, 9, 41, true, &left), 41);
+    CHECK(is_entry(&left, 4, 40), true);
+    old = lru_reader_pin(&reader, hash_of(4), 4, ~4ul);
+    CHECK(inserts(&clock, 4, 2, 42, true, &left).code, LRU_FULL);
+    CHECK(inserts(&clock, 5, 2, 50, true, &left).code, LRU_FULL);
+    CHECK(inserts(&clock, 4, UINT64_MAX, 42, true, &left).code, LRU_OVERFLOW);
+    CHECK(inserts(&clock, 4, UINT64_MAX, 42, false, &left).code, LRU_OVERFLOW);
+    CHECK(inserts(&clock, 4, 0, 42, false, &left).code, LRU_NO_CHARGE);
+    CHECK(is_entry(&left, 4, 40), true);
+    CHECK(lru_clock_len(&clock).value, 1);
+    CHECK(lru_clock_total(&clock).value, 9);
+    found = lru_reader_pin(&reader, hash_of(4), 4, ~4ul);
+    CHECK(found.value, 41);
+    CHECK(found.place, old.place);
+    CHECK(lru_reader_unpin(&reader, found.place), LRU_DONE);
+    found = inserts(&clock, 4, 2, 42, false, &left);
+    CHECK(found.code, LRU_DONE);
+    CHECK(lru_clock_total(&clock).value, 11);
+    CHECK(lru_clock_pinned_charge(&clock).value, 11);
+
+    /* a strict call makes no other call strict */
+    CHECK(inserts(&clock, 5, 1, 50, true, &left).code, LRU_FULL);
+    CHECK(lru_clock_add(&clock, hash_of(6), 6, ~6ul, 1, 60, false).code, LRU_DONE);
+    CHECK(lru_clock_total(&clock).value, 12);
+
+    CHECK(lru_clock_stats(&clock, &counts), LRU_DONE);
+    CHECK(counts.makings, 0);
+    CHECK(counts.insertions, 9);
+    CHECK(counts.evictions, 6);
+    CHECK(counts.entries, 3);
+    CHECK(lru_clock_release_and_evict(&clock, old.place, &left), LRU_GONE);
+    CHECK(is_entry(&left, 4, 41), true);
+    CHECK(lru_clock_release_and_evict(&clock, found.place, &left), LRU_GONE);
+    CHECK(is_entry(&left, 4, 42), true);
+    found = lru_clock_find(&clock, hash_of(6), 6, ~6ul);
+    CHECK(lru_reader_unpin(&reader, found.place), LRU_DONE);
+    CHECK(lru_clock_release_and_evict(&clock, found.place, &left), LRU_GONE);
+    CHECK(lru_clock_free(&clock), LRU_DONE);
+    CHECK(lru_reader_free(&reader), LRU_DONE);
+}
+
 static lru_found begins(lru_clock *clock, uint64_t key, uint64_t charge) {
     return lru_clock_begin(clock, hash_of(key), key, ~key, charge);
 }
@@ -363,10 +474,22 @@ static void test_makings(void) {
     leaves(&clock, &reader, found.place, 4, 41);
     finds(&clock, &reader, 4, 40);
 
-    /* an add that stores nothing leaves the making, and an invalidated one may fail */
+    /* and so with one that was inserted */
+    one = ticket_of(&clock, 7);
+    found = inserts(&clock, 7, 1, 70, false, &left);
+    CHECK(found.code, LRU_DONE);
+    finds(&clock, &reader, 7, 70);
+    other = readies(&clock, one, 7, 1, 71);
+    CHECK(other.code, LRU_DONE);
+    finds(&clock, &reader, 7, 70);
+    leaves(&clock, &reader, other.place, 7, 71);
+    CHECK(lru_clock_release_and_evict(&clock, found.place, &left), LRU_GONE);
+
+    /* an add or insert that stores nothing leaves the making, and an invalidated one may fail */
     one = ticket_of(&clock, 5);
     CHECK(lru_clock_add(&clock, hash_of(5), 5, ~5ul, 0, 50, false).code, LRU_NO_CHARGE);
     CHECK(lru_clock_add(&clock, hash_of(5), 5, ~5ul, UINT64_MAX, 50, false).code, LRU_OVERFLOW);
+    CHECK(inserts(&clock, 5, 101, 50, true, &left).code, LRU_FULL);
     CHECK(begins(&clock, 5, 1).code, LRU_WAIT);
     CHECK(lru_clock_erase(&clock, hash_of(5), 5, ~5ul, &left), LRU_DONE);
     CHECK(lru_clock_fail(&clock, one), LRU_DONE);
@@ -467,6 +590,48 @@ static bool test_refused_reserve(unsigned which) {
     return refused == 0;
 }
 
+/* Inserts and replaces entries, where one request for memory is refused: a key whose insert is
+ * refused keeps what it had. Returns whether that was made at all. */
+static bool test_refused_inserts(unsigned which) {
+    enum { ENTRIES = 100 };
+    lru_clock clock = {0};
+    lru_reader reader = {0};
+    lru_left left;
+    uint64_t key, round, stored = 0, gone = 0;
+    uint32_t next = 0;
+    CHECK(lru_clock_new(2 * ENTRIES, &clock), LRU_DONE);
+    CHECK(lru_reader_new(&clock, &reader), LRU_DONE);
+    refused = which;
+    for (round = 1; round <= 2; round++)
+        for (key = 0; key < ENTRIES; key++) {
+            lru_found old = lru_clock_find(&clock, hash_of(key), key, ~key), found;
+            if (old.code == LRU_HIT)
+                CHECK(lru_reader_unpin(&reader, old.place), LRU_DONE);
+            found = inserts(&clock, key, 1, 1000 * round + key, true, &left);
+            if (found.code == LRU_MEMORY) {
+                found = lru_clock_find(&clock, hash_of(key), key, ~key);
+                CHECK(found.code, old.code);
+                CHECK(found.value, old.value);
+            } else {
+                CHECK(found.code, old.code == LRU_HIT ? LRU_REPLACED : LRU_DONE);
+                CHECK(found.value, 1000 * round + key);
+                stored++;
+            }
+            if (found.code == LRU_REPLACED) {
+                CHECK(is_entry(&left, key, old.value), true);
+                gone++;
+            }
+            if (found.code != LRU_MISSED)
+                CHECK(lru_reader_unpin(&reader, found.place), LRU_DONE);
+        }
+    while (lru_clock_prune(&clock, &next, &left) == LRU_GONE)
+        gone++;
+    CHECK(gone, stored);
+    CHECK(lru_clock_free(&clock), LRU_DONE);
+    CHECK(lru_reader_free(&reader), LRU_DONE);
+    return refused == 0;
+}
+
 /* Returns how many requests for memory were refused. */
 static unsigned refusals_of(bool (*test)(unsigned)) {
     unsigned which = 1;
@@ -539,6 +704,25 @@ static void insert(lru_reader *reader, uint64_t key) {
     use(reader, found, key);
 }
 
+/* Replaces the entry of a key, and deletes each entry that leaves while it does not have the
+ * mutex. */
+static void replace(lru_reader *reader, uint64_t key) {
+    lru_found found;
+    unsigned number = next_object++;
+    objects[number].key = key;
+    do {
+        lru_left left;
+        pthread_mutex_lock(&mutex);
+        found = inserts(&shared_clock, key, 1, number, false, &left);
+        pthread_mutex_unlock(&mutex);
+        if (found.code == LRU_GONE || found.code == LRU_REPLACED)
+            delete_value(&left);
+    } while (found.code == LRU_GONE);
+    CHECK(found.code == LRU_DONE || found.code == LRU_REPLACED, true);
+    CHECK(found.value, number);
+    use(reader, found, key);
+}
+
 static void *run(void *from) {
     lru_reader reader = {0};
     uint64_t random = (uintptr_t)from;
@@ -559,6 +743,10 @@ static void *run(void *from) {
             pthread_mutex_unlock(&mutex);
             if (code == LRU_GONE)
                 delete_value(&left);
+            continue;
+        }
+        if ((random >> 55) % 16 == 1) {
+            replace(&reader, key);
             continue;
         }
         found = lru_reader_pin(&reader, hash_of(key), key, ~key);
@@ -684,8 +872,10 @@ int main(void) {
     unsigned refusals;
     test_answers();
     test_limits();
+    test_inserts();
     test_makings();
     refusals = refusals_of(test_refusal) + refusals_of(test_refused_reserve);
+    refusals += refusals_of(test_refused_inserts);
     test_threads(KEYS / 2, run);
     test_threads(UINT64_MAX, run_makers);
     if (failures > 0)

@@ -11,3 +11,4 @@ pub mod Lent
 pub mod Opened
 pub mod Forms
 pub mod ClockForms
+pub mod Stored

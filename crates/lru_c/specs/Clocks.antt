@@ -1,5 +1,5 @@
 -- The calls from C on clocks and readers.
-use Rattle.std.specs.Prelude.{◌≡◌, ◌==◌, ◌⊎◌, ◌/◌, ◌^◌, ℕ, Bool, false, List, [], Option, None, Some, sum_by, MatchBool, MatchOption}
+use Rattle.std.specs.Prelude.{◌≡◌, ◌==◌, ◌⊎◌, ◌/◌, ◌^◌, ⊤, ℕ, Bool, false, List, [], Option, None, Some, sum_by, MatchBool, MatchOption}
 use Rattle.std.specs.List.{list_any}
 use Rattle.std.proofs.Math.ListN.{set}
 use Rattle.lru_clock.specs.Begun.{IsBegun}
@@ -18,6 +18,7 @@ use Rattle.lru_c.specs.declared.clock.locked.ClockNumber.TheVariants as which
 use Rattle.lru_c.specs.declared.clock.reader.Reader.{Reader}
 use Rattle.lru_c.specs.declared.clock.told.LruClockCounts.{LruClockCounts}
 use Rattle.lru_c.specs.declared.clock.told.LruFound.{LruFound}
+use Rattle.lru_c.specs.declared.clock.told.LruLeft.{LruLeft}
 use Rattle.lru_c.specs.declared.words.key.Words.{Words}
 
 -- an answer of a code, a value and a place; one that is a code alone
@@ -94,6 +95,25 @@ Adds key charge value is_strict old t new =
     MatchBool (charge == 0) ((t ≡ bare_found code.no_charge) × (new ≡ old))
     (((t.code ≡ code.hit) × (new ≡ old)) ⊎ (t ≡ bare_found code.overflow) ⊎ MatchBool (refuses is_strict old.capacity old.seats charge) ((t ≡ bare_found code.full) × (new ≡ old))
     (((t.code ≡ code.done) × (t.value ≡ value) × Charges charge t.place old.seats new.seats × (is_making key new ≡ false)) ⊎ (t ≡ bare_found code.memory)))
+
+-- An insert was refused.
+abbrev pub IsRefused : LruFound → Type 0
+IsRefused t = (t ≡ bare_found code.memory) ⊎ (t ≡ bare_found code.overflow) ⊎ (t ≡ bare_found code.full)
+
+-- An entry of this value was stored and pinned, and later callers wait for no making of the key; or
+-- an entry left, and another has to leave first; or the new one is refused, and no entry changed.
+abbrev pub Stores : Words → ℕ → State → LruFound → State → Type 0
+Stores key value old t new =
+    (((t.code ≡ code.done) ⊎ (t.code ≡ code.replaced)) × (t.value ≡ value) × (is_making key new ≡ false)) ⊎ (t ≡ bare_found code.gone) ⊎ (IsRefused t × AddsVacant old.seats new.seats)
+
+-- The same; a charge of 0 changes nothing.
+abbrev pub StoresOver : Words → ℕ → ℕ → State → LruFound → State → Type 0
+StoresOver key charge value old t new =
+    MatchBool (charge == 0) ((t ≡ bare_found code.no_charge) × (new ≡ old)) (Stores key value old t new)
+
+-- The entry that left is written only with a code that says that one did.
+abbrev pub WritesLeft : ℕ → LruLeft → LruLeft → Type 0
+WritesLeft c old new = MatchBool (c == code.gone) ⊤ (MatchBool (c == code.replaced) ⊤ (new ≡ old))
 
 -- The key has an entry, which was looked up; or nobody makes its value, and the caller does now,
 -- under a ticket that no other making has; or another caller makes it; or the caller is refused.

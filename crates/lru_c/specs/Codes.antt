@@ -69,3 +69,6 @@ gone = 22
 
 abbrev pub last : ℕ
 last = 23
+
+abbrev pub replaced : ℕ
+replaced = 24

@@ -46,3 +46,5 @@ pub const NO_KIND: u32 = 21;
 pub const GONE: u32 = 22;
 /// Done; the entry was invalidated, and this was its last pin, so it waits to be collected.
 pub const LAST: u32 = 23;
+/// Stored and pinned; another entry has left the clock for it, and is returned.
+pub const REPLACED: u32 = 24;

@@ -3,7 +3,7 @@ ghost use Rattle.std.specs.Prelude.{◌≡◌, ◌==◌, ⊤, None, MatchBool, M
 ghost use Rattle.lru_c.specs.Clocks.{bare_found, found, number_of, Adds, AreCounts, BeginsMaking};
 ghost use Rattle.lru_c.specs.Clocks.{Erases, Fails, Frees, IsLookup, IsNewClock, IsRelease};
 ghost use Rattle.lru_c.specs.Clocks.{LeavesAt, LeavesOne, OnClock, OnReader, Readies, ReleasesAt};
-ghost use Rattle.lru_c.specs.Clocks.{Reserves};
+ghost use Rattle.lru_c.specs.Clocks.{Reserves, StoresOver, WritesLeft};
 ghost use Rattle.lru_c.specs.Codes as codes;
 ghost use Rattle.lru_c.specs.Opened.{Opens};
 ghost use Rattle.lru_c.specs.WordsCalls.{words};
@@ -194,6 +194,38 @@ pub extern "C" fn lru_clock_add(
     }
 }
 
+/// Makes room for an entry, stores it in place of the key's, and pins it. Returns `DONE` with its
+/// value and its place; or `REPLACED` with them, if another entry has left, which is written; or
+/// `GONE` if one has left, and another has to leave first: nothing is stored then, so call again.
+/// The key's entry leaves last. If it is pinned, it is invalidated instead, and to be collected
+/// after its last pin. After `DONE` and `REPLACED`, a value that is being made for the key is for
+/// its maker alone.
+///
+/// Returns `NO_CHARGE` if the charge is 0, `FULL` if the call is strict, there is too little room,
+/// and no entry can be evicted, `MEMORY` if the allocator refuses, `OVERFLOW` if a number would
+/// overflow, and `CLOSED` if the handle is not open. No entry has changed then, and the value is
+/// not taken.
+#[unsafe(no_mangle)]
+pub extern "C" fn lru_clock_insert(
+    clock: &mut LruClock,
+    hash: u64,
+    first: u64,
+    second: u64,
+    charge: u64,
+    value: u64,
+    strict: bool,
+    left: &mut LruLeft,
+) -> LruFound
+    ensures told { OnClock clock.old.clock.held result.code clock.new.clock.held
+        (λ o n. StoresOver (words first second) charge value o result n) }
+    ensures kept { WritesLeft result.code left.old left.new }
+{
+    match clock.get_mut() {
+        Some(clock) => clock.insert(hash, &Words { first, second }, charge, value, strict, left),
+        None => LruFound::bare(code::CLOSED),
+    }
+}
+
 /// Pins the entry of a key, and returns `HIT` with its value and its place; or begins the making of
 /// its value, and returns `MAKE` with the ticket as the value: the caller makes the value, and then
 /// calls `ready` or `fail`. If another caller is making it, returns `WAIT`: call again after a
@@ -219,8 +251,8 @@ pub extern "C" fn lru_clock_begin(
 }
 
 /// Ends a making, adds an entry of its key with this value and pins it, and returns `DONE` with the
-/// value and the place. If the key was erased or added meanwhile, the entry is already invalidated,
-/// and only this caller gets it. Evicts nothing.
+/// value and the place. If the key was erased, added or inserted meanwhile, the entry is already
+/// invalidated, and only this caller gets it. Evicts nothing.
 ///
 /// Returns `NO_CHARGE` if the charge is 0, and `FULL` if the call is strict and the charge would
 /// take the total above the capacity, whatever the ticket; a making goes on then. Returns `STALE`

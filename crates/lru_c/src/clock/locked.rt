@@ -3,7 +3,7 @@
 ghost use Rattle.std.specs.Prelude.{◌≡◌, ◌==◌, ⊤, [], MatchBool, MatchOption, IfOk};
 ghost use Rattle.lru_c.specs.Clocks.{found, number_of, Adds, AreCounts, BeginsMaking, Erases};
 ghost use Rattle.lru_c.specs.Clocks.{Fails, IsLookup, LeavesAny, LeavesAt, LeavesOne, Readies};
-ghost use Rattle.lru_c.specs.Clocks.{ReleasesAt, Reserves};
+ghost use Rattle.lru_c.specs.Clocks.{ReleasesAt, Reserves, Stores, StoresOver, WritesLeft};
 ghost use Rattle.lru_c.specs.Codes as codes;
 
 use crate::clock::reader::{Reader, told_of_lookup};
@@ -94,6 +94,113 @@ impl Clock {
             Ok(place) => LruFound::of(code::DONE, value, place),
             Err(Refusal::Memory) => LruFound::bare(code::MEMORY),
             Err(_) => LruFound::bare(code::OVERFLOW),
+        }
+    }
+
+    // Stores an entry in place of the key's and pins it, and makes room for it.
+    pub(crate) fn insert(
+        &mut self,
+        hash: u64,
+        key: &Words,
+        charge: u64,
+        value: u64,
+        is_strict: bool,
+        left: &mut LruLeft,
+    ) -> LruFound
+        ensures inserts { StoresOver key.now charge value self.old.state result self.new.state }
+        ensures kept { WritesLeft result.code left.old left.new }
+    {
+        if charge == 0 {
+            return LruFound::bare(code::NO_CHARGE);
+        }
+        // The limit is strict for this call alone.
+        self.state.is_strict = is_strict;
+        let found = self.store_over(tag_of(hash), key, charge, value, left);
+        self.state.is_strict = false;
+        found
+    }
+
+    // Stores an entry in place of the key's and pins it, unless another has to leave first.
+    fn store_over(
+        &mut self,
+        tag: u32,
+        key: &Words,
+        charge: u64,
+        value: u64,
+        left: &mut LruLeft,
+    ) -> LruFound
+        ensures stores { Stores key.now value self.old.state result self.new.state }
+        ensures kept { WritesLeft result.code left.old left.new }
+    {
+        match self.entries.make_way(&mut self.state, tag, key, charge) {
+            Ok(None) => {}
+            Ok(Some(evicted)) => {
+                write(evicted, left);
+                if self.state.is_above(charge) || self.state.seats.find(tag, key).is_some() {
+                    return LruFound::bare(code::GONE);
+                }
+                return match self
+                    .entries
+                    .hold_new(&mut self.state, tag, key, charge, value)
+                {
+                    Ok(place) => LruFound::of(code::REPLACED, value, place),
+                    // The next call is told why, as there is room for it.
+                    Err(_) => LruFound::bare(code::GONE),
+                };
+            }
+            Err(refusal) => return LruFound::refused(refusal),
+        }
+        self.replace(tag, key, charge, value, left)
+    }
+
+    // Stores an entry in place of the key's and pins it. No other entry leaves than the key's.
+    fn replace(
+        &mut self,
+        tag: u32,
+        key: &Words,
+        charge: u64,
+        value: u64,
+        left: &mut LruLeft,
+    ) -> LruFound
+        ensures stores { Stores key.now value self.old.state result self.new.state }
+        ensures kept { WritesLeft result.code left.old left.new }
+    {
+        let kept = match self.entries.new_entry(key, value) {
+            Ok(kept) => kept,
+            Err(refusal) => return LruFound::refused(refusal),
+        };
+        let Ok(key_copy) = kept.key.clone() else {
+            return LruFound::bare(code::MEMORY);
+        };
+        let (stored, gone) = self
+            .entries
+            .replace(&mut self.state, tag, key, charge, kept, key_copy);
+        match stored {
+            Ok((place, pin)) => {
+                // Never refused: nobody else has held the new entry.
+                let _ = self.entries.hold_at(place);
+                let _ = pin.release();
+                self.state.makings.invalidate(key);
+                self.state.counts.insertions = self.state.counts.insertions.wrapping_add(1);
+                match gone {
+                    Some(gone) => {
+                        write(gone, left);
+                        LruFound::of(code::REPLACED, value, place)
+                    }
+                    None => LruFound::of(code::DONE, value, place),
+                }
+            }
+            Err((refusal, refused)) => {
+                drop(refused.into_parts());
+                match gone {
+                    // Never happens, as `Core::replace` says.
+                    Some(gone) => {
+                        write(gone, left);
+                        LruFound::bare(code::GONE)
+                    }
+                    None => LruFound::refused(refusal),
+                }
+            }
         }
     }
 
@@ -276,16 +383,21 @@ fn write_left(gone: Option<Left<Words, u64, Anything>>, left: &mut LruLeft) -> u
 {
     match gone {
         Some(gone) => {
-            // Always `Some`.
-            if let Some((key, value)) = gone.into_parts() {
-                *left = LruLeft {
-                    first: key.first,
-                    second: key.second,
-                    value,
-                };
-            }
+            write(gone, left);
             code::GONE
         }
         None => code::DONE,
+    }
+}
+
+// Writes an entry that left.
+fn write(gone: Left<Words, u64, Anything>, left: &mut LruLeft) {
+    // Always `Some`.
+    if let Some((key, value)) = gone.into_parts() {
+        *left = LruLeft {
+            first: key.first,
+            second: key.second,
+            value,
+        };
     }
 }

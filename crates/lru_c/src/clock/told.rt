@@ -1,9 +1,10 @@
 //! What the calls on a clock return to C.
 ghost use Rattle.std.specs.Prelude.{◌≡◌};
-ghost use Rattle.lru_c.specs.Clocks.{bare_found, found};
+ghost use Rattle.lru_c.specs.Clocks.{bare_found, found, IsRefused};
 ghost use Rattle.lru_c.specs.Codes as codes;
 
 use crate::code;
+use concurrent_lru::sharded::Refusal;
 
 /// What a lookup returns, in two registers: a code, and what goes with it.
 #[repr(C)]
@@ -31,6 +32,17 @@ impl LruFound {
         ensures { result ≡ bare_found code }
     {
         LruFound::of(code, 0, 0)
+    }
+
+    // Returns the answer of an insert that was refused, never with `Stale`.
+    pub(crate) fn refused(refusal: Refusal) -> LruFound
+        ensures { IsRefused result }
+    {
+        LruFound::bare(match refusal {
+            Refusal::Memory => code::MEMORY,
+            Refusal::Full => code::FULL,
+            _ => code::OVERFLOW,
+        })
     }
 
     // Returns a number.
@@ -62,7 +74,7 @@ pub struct LruClockCounts {
     pub makings: u64,
     /// Makings that failed, or whose value was refused.
     pub failures: u64,
-    /// Entries that `add` stored.
+    /// Entries that `add` and `insert` stored.
     pub insertions: u64,
     /// Entries that have left.
     pub evictions: u64,
