@@ -156,6 +156,8 @@ enum {
                         it, under the lock */
     LRU_REPLACED = 24, /* insert of a clock: done, as with LRU_DONE; another entry has left for the
                           new one, the key's or one that was evicted, and is told */
+    LRU_ABOVE = 25,  /* reader: done; this was the last pin of the entry, and the total is above the
+                        capacity: make room for a charge of 0, under the lock */
 
     /* Refusals of the cache. */
     LRU_OVERFLOW = 7, /* a number would overflow: the total of charges, the stamps or the pins */
@@ -591,9 +593,10 @@ bool lru_chain_is_empty(lru_chain *chain);
  *     lru_found found = lru_reader_pin(&reader, hash, first, second);
  *     if (found.code == LRU_HIT) {
  *         use(found.value);
- *         if (lru_reader_unpin(&reader, found.place) == LRU_LAST) {
+ *         lru_code code = lru_reader_unpin(&reader, found.place);
+ *         if (code == LRU_LAST) {
  *             pthread_mutex_lock(&mutex);
- *             lru_code code = lru_clock_collect(&clock, found.place, &left);
+ *             code = lru_clock_collect(&clock, found.place, &left);
  *             pthread_mutex_unlock(&mutex);
  *             if (code == LRU_GONE)
  *                 delete_value(left.value);
@@ -669,8 +672,11 @@ bool lru_chain_is_empty(lru_chain *chain);
  * insert replaces the key's entry, and that nobody finds a value that was made for an erased key,
  * is tested.
  *
- * Giving a pin back evicts nothing. If the pinned entries took the total above the capacity, the
- * next make_room evicts down to it. */
+ * Giving a pin back evicts nothing. If pinned entries keep the total above the capacity, whoever
+ * gives back the last pin of one is told LRU_ABOVE. To have the total down at once, take the mutex
+ * then, and make room for a charge of 0 until LRU_DONE; otherwise the next make_room evicts down to
+ * the capacity. LRU_ABOVE is not told in place of LRU_LAST, nor while another thread compares the
+ * entry with a key. */
 
 /* Opens an empty clock, whose entries are evicted while their total is above `capacity`. The caller
  * frees it with lru_clock_free.
@@ -712,8 +718,9 @@ lru_found lru_reader_pin_at(lru_reader *reader, uint32_t place);
 
 /* Gives back a pin.
  *
- * Does not allocate. LRU_DONE; LRU_LAST, which also gives it back; LRU_STALE if no entry is at the
- * place, or it has no pin; LRU_CLOSED. */
+ * Does not allocate. LRU_DONE; LRU_LAST and LRU_ABOVE, which also give it back; LRU_STALE if no
+ * entry is at the place, or it has no pin; LRU_CLOSED. LRU_ABOVE is told only after a call on the
+ * clock has left the total above the capacity, and until one leaves it below. */
 lru_code lru_reader_unpin(lru_reader *reader, uint32_t place);
 
 /* Evicts one entry, if another charge would take the total above the capacity. Entries that are

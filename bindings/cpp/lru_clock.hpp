@@ -555,7 +555,7 @@ class alignas(64) ClockCache {
   void release(std::uint32_t shard, std::uint32_t place) const noexcept {
     lru_reader* const reader = shards_.mine(shard);
     const lru_code code = Shards::unpin(reader, place);
-    if (code != LRU_DONE) release_locked(shard, place, reader, code);
+    if (code != LRU_DONE && code != LRU_ABOVE) release_locked(shard, place, reader, code);
   }
 
   // These take the lock.

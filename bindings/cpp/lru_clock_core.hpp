@@ -268,7 +268,7 @@ struct alignas(64) ClockShard {
       open_reader(mine);
       code = lru_reader_unpin(&reader, place);
     }
-    assert(code == LRU_DONE || code == LRU_LAST);
+    assert(code == LRU_DONE || code == LRU_ABOVE || code == LRU_LAST);
     if (code == LRU_LAST) collect(place, evicted);
     return code;
   }

@@ -157,7 +157,7 @@ static void test_answers(void) {
     CHECK(lru_clock_total(&clock).value, 4);
     CHECK(lru_clock_add(&clock, hash_of(5), 5, ~5ul, UINT64_MAX, 50, false).code, LRU_OVERFLOW);
     CHECK(lru_clock_prune(&clock, &next, &left), LRU_DONE);
-    CHECK(lru_reader_unpin(&other, found.place), LRU_DONE);
+    CHECK(lru_reader_unpin(&other, found.place), LRU_ABOVE);
     CHECK(lru_clock_prune(&clock, &next, &left), LRU_GONE);
     CHECK(left.value, 30);
     CHECK(lru_clock_prune(&clock, &next, &left), LRU_DONE);
@@ -225,6 +225,51 @@ static void test_limits(void) {
     CHECK(counts.charge, 4);
     CHECK(counts.capacity, 10);
     CHECK(lru_clock_erase(&clock, hash_of(6), 6, ~6ul, &left), LRU_GONE);
+    CHECK(lru_clock_free(&clock), LRU_DONE);
+    CHECK(lru_reader_free(&reader), LRU_DONE);
+}
+
+/* Who gives back the last pin of an entry is told whether the total is above the capacity. */
+static void test_above(void) {
+    lru_clock clock = {0};
+    lru_reader reader = {0};
+    lru_left left;
+    lru_found found[3];
+    uint32_t next = 0;
+    uint64_t key;
+    CHECK(lru_clock_new(10, &clock), LRU_DONE);
+    CHECK(lru_reader_new(&clock, &reader), LRU_DONE);
+    for (key = 0; key < 3; key++) {
+        CHECK(lru_clock_make_room(&clock, 4, &left), LRU_DONE);
+        found[key] = lru_clock_add(&clock, hash_of(key), key, ~key, 4, key, false);
+        CHECK(found[key].code, LRU_DONE);
+    }
+
+    /* only the last pin, and only until the total is down */
+    CHECK(lru_reader_pin(&reader, hash_of(0), 0, ~0ul).code, LRU_HIT);
+    CHECK(lru_reader_unpin(&reader, found[0].place), LRU_DONE);
+    CHECK(lru_reader_unpin(&reader, found[0].place), LRU_ABOVE);
+    CHECK(lru_reader_unpin(&reader, found[0].place), LRU_STALE);
+    CHECK(lru_clock_make_room(&clock, 0, &left), LRU_GONE);
+    CHECK(left.value, 0);
+    CHECK(lru_clock_make_room(&clock, 0, &left), LRU_DONE);
+    CHECK(lru_reader_unpin(&reader, found[1].place), LRU_DONE);
+
+    /* another capacity */
+    CHECK(lru_clock_set_capacity(&clock, 7), LRU_DONE);
+    CHECK(lru_reader_unpin(&reader, found[2].place), LRU_ABOVE);
+    CHECK(lru_clock_set_capacity(&clock, 8), LRU_DONE);
+    CHECK(lru_reader_pin_at(&reader, found[2].place).code, LRU_HIT);
+    CHECK(lru_reader_unpin(&reader, found[2].place), LRU_DONE);
+
+    /* an invalidated entry is to be collected */
+    CHECK(lru_clock_set_capacity(&clock, 1), LRU_DONE);
+    CHECK(lru_reader_pin_at(&reader, found[2].place).code, LRU_HIT);
+    CHECK(lru_clock_erase(&clock, hash_of(2), 2, ~2ul, &left), LRU_DONE);
+    CHECK(lru_reader_unpin(&reader, found[2].place), LRU_LAST);
+    CHECK(lru_clock_collect(&clock, found[2].place, &left), LRU_GONE);
+
+    CHECK(lru_clock_prune(&clock, &next, &left), LRU_GONE);
     CHECK(lru_clock_free(&clock), LRU_DONE);
     CHECK(lru_reader_free(&reader), LRU_DONE);
 }
@@ -679,6 +724,12 @@ static lru_code use(lru_reader *reader, lru_found found, uint64_t key) {
         pthread_mutex_unlock(&mutex);
         if (code == LRU_GONE)
             delete_value(&left);
+    } else if (unpinned == LRU_ABOVE) {
+        pthread_mutex_lock(&mutex);
+        code = lru_clock_make_room(&shared_clock, 0, &left);
+        pthread_mutex_unlock(&mutex);
+        if (code == LRU_GONE)
+            delete_value(&left);
     } else {
         CHECK(unpinned, LRU_DONE);
     }
@@ -872,6 +923,7 @@ int main(void) {
     unsigned refusals;
     test_answers();
     test_limits();
+    test_above();
     test_inserts();
     test_makings();
     refusals = refusals_of(test_refusal) + refusals_of(test_refused_reserve);

@@ -1153,7 +1153,7 @@ impl<K: WordsKey + ?Sized, V> Cache<K, V> {
             // SAFETY: only this thread uses the reader.
             code = unsafe { ffi::lru_reader_unpin(reader, place) };
         }
-        if code != ffi::DONE {
+        if code != ffi::DONE && code != ffi::ABOVE {
             self.unpin_locked(shard, place, code);
         }
     }

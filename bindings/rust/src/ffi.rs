@@ -134,6 +134,7 @@ pub const PINNED: u32 = 18;
 pub const FULL: u32 = 20;
 pub const GONE: u32 = 22;
 pub const LAST: u32 = 23;
+pub const ABOVE: u32 = 25;
 
 pub const BYTES: u32 = 0;
 pub const WORDS: u32 = 1;

@@ -44,9 +44,10 @@ tag_of hash = hash / 2 ^ 32
 abbrev pub IsLookup : LruFound → Type 0
 IsLookup t = (t.code ≡ code.hit) ⊎ (t ≡ bare_found code.missed) ⊎ (t ≡ bare_found code.overflow)
 
--- A pin was given back, perhaps the last one of an invalidated entry; or there was none.
+-- A pin was given back, perhaps the last one of an entry, which was invalidated, or while the total
+-- was above the capacity; or there was none.
 abbrev pub IsRelease : ℕ → Type 0
-IsRelease c = (c ≡ code.done) ⊎ (c ≡ code.last) ⊎ (c ≡ code.stale)
+IsRelease c = (c ≡ code.done) ⊎ (c ≡ code.last) ⊎ (c ≡ code.above) ⊎ (c ≡ code.stale)
 
 -- An entry left, or none did.
 abbrev pub LeavesAny : ℕ → Type 0

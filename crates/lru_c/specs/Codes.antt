@@ -72,3 +72,6 @@ last = 23
 
 abbrev pub replaced : ℕ
 replaced = 24
+
+abbrev pub above : ℕ
+above = 25

@@ -48,3 +48,5 @@ pub const GONE: u32 = 22;
 pub const LAST: u32 = 23;
 /// Stored and pinned; another entry has left the clock for it, and is returned.
 pub const REPLACED: u32 = 24;
+/// Done; nobody else has pinned the entry, and the total is above the capacity.
+pub const ABOVE: u32 = 25;

@@ -135,8 +135,10 @@ pub extern "C" fn lru_reader_pin_at(reader: &mut LruReader, place: u32) -> LruFo
     }
 }
 
-/// Gives back a pin of the entry at a place, without the lock. Returns `LAST` if the entry was
-/// invalidated and has no other pin: it is to be collected under the lock.
+/// Gives back a pin of the entry at a place, without the lock. If the entry has no other pin,
+/// returns `LAST` if it was invalidated: it is to be collected under the lock. Returns `ABOVE` then
+/// if it was not, and the total was above the capacity after the last call under the lock: room for
+/// a charge of 0 is to be made there.
 ///
 /// Returns `STALE` if no entry is at the place, or it has no pin, and `CLOSED` if the handle is not
 /// open.

@@ -6,6 +6,7 @@ ghost use Rattle.lru_c.specs.Clocks.{Fails, IsLookup, LeavesAny, LeavesAt, Leave
 ghost use Rattle.lru_c.specs.Clocks.{ReleasesAt, Reserves, Stores, StoresOver, WritesLeft};
 ghost use Rattle.lru_c.specs.Codes as codes;
 
+use crate::clock::above::Above;
 use crate::clock::reader::{Reader, told_of_lookup};
 use crate::clock::told::{LruClockCounts, LruFound, LruLeft};
 use crate::clock::{Entries, tag_of};
@@ -21,6 +22,7 @@ use std::sync::Arc;
 #[derive(Drop)]
 pub struct Clock {
     entries: Arc<Entries>,
+    above: Arc<Above>,
     pub state: ShardState<Words>,
 }
 
@@ -42,15 +44,29 @@ impl Clock {
             (clock.state.seats ≡ [])) }
     {
         let (entries, state) = Entries::new(alloc, capacity, MOST_PINS)?;
-        match Arc::new(alloc, entries) {
-            Ok(entries) => Ok(Clock { entries, state }),
+        let Ok(entries) = Arc::new(alloc, entries) else {
+            return Err(AllocError);
+        };
+        match Arc::new(alloc, Above::new()) {
+            Ok(above) => Ok(Clock {
+                entries,
+                above,
+                state,
+            }),
             Err(_) => Err(AllocError),
         }
     }
 
     // Returns a reader of the entries.
     pub(crate) fn reader(&self) -> Result<Reader, AllocError> {
-        Ok(Reader::of(Arc::try_clone(&self.entries)?))
+        let entries = Arc::try_clone(&self.entries)?;
+        let above = Arc::try_clone(&self.above)?;
+        Ok(Reader::of(entries, above))
+    }
+
+    // Tells the readers whether the total is above the capacity, after a change of either.
+    fn tell_readers(&self) {
+        self.above.set(self.state.is_above(0));
     }
 
     // Evicts one entry if another charge would take the total above the capacity.
@@ -61,7 +77,9 @@ impl Clock {
         let gone = self
             .entries
             .make_room(&mut self.state, charge, &mut Looks::new());
-        write_left(gone, left)
+        let code = write_left(gone, left);
+        self.tell_readers();
+        code
     }
 
     // Adds an entry and pins it. If the key has an entry, pins that.
@@ -91,7 +109,10 @@ impl Clock {
             .entries
             .hold_new(&mut self.state, tag, key, charge, value)
         {
-            Ok(place) => LruFound::of(code::DONE, value, place),
+            Ok(place) => {
+                self.tell_readers();
+                LruFound::of(code::DONE, value, place)
+            }
             Err(Refusal::Memory) => LruFound::bare(code::MEMORY),
             Err(_) => LruFound::bare(code::OVERFLOW),
         }
@@ -117,6 +138,7 @@ impl Clock {
         self.state.is_strict = is_strict;
         let found = self.store_over(tag_of(hash), key, charge, value, left);
         self.state.is_strict = false;
+        self.tell_readers();
         found
     }
 
@@ -252,7 +274,10 @@ impl Clock {
             .entries
             .hold_made(&mut self.state, ticket, tag_of(hash), charge, value)
         {
-            Ok(Some(place)) => LruFound::of(code::DONE, value, place),
+            Ok(Some(place)) => {
+                self.tell_readers();
+                LruFound::of(code::DONE, value, place)
+            }
             Ok(None) => LruFound::bare(code::STALE),
             Err(Refusal::Memory) => LruFound::bare(code::MEMORY),
             Err(_) => LruFound::bare(code::OVERFLOW),
@@ -279,7 +304,9 @@ impl Clock {
             .entries
             .invalidate_entry(&mut self.state, tag_of(hash), key);
         self.state.makings.invalidate(key);
-        write_left(gone, left)
+        let code = write_left(gone, left);
+        self.tell_readers();
+        code
     }
 
     // Gives back a pin of the entry at a place, and takes out the entry if nobody else has pinned
@@ -288,10 +315,12 @@ impl Clock {
         ensures releases { ReleasesAt place self.old.state result self.new.state }
         ensures kept { MatchBool (result == codes.gone) ⊤ (left.new ≡ left.old) }
     {
-        match self.entries.end_hold_and_take(&mut self.state, place) {
-            Some(gone) => write_left(gone, left),
-            None => code::STALE,
-        }
+        let Some(gone) = self.entries.end_hold_and_take(&mut self.state, place) else {
+            return code::STALE;
+        };
+        let code = write_left(gone, left);
+        self.tell_readers();
+        code
     }
 
     // Takes out the entry at a place if it was invalidated and nobody has pinned it.
@@ -300,7 +329,9 @@ impl Clock {
         ensures kept { MatchBool (result == codes.gone) ⊤ (left.new ≡ left.old) }
     {
         let gone = self.entries.take_invalidated(&mut self.state, place);
-        write_left(gone, left)
+        let code = write_left(gone, left);
+        self.tell_readers();
+        code
     }
 
     // Evicts the first entry that nobody has pinned, from the place `next` on.
@@ -310,7 +341,9 @@ impl Clock {
             ((left.new ≡ left.old) × (next.new ≡ next.old)) }
     {
         let gone = self.entries.take_next_idle(&mut self.state, next);
-        write_left(gone, left)
+        let code = write_left(gone, left);
+        self.tell_readers();
+        code
     }
 
     // Adds places until there are as many as `entries`.
@@ -329,6 +362,7 @@ impl Clock {
         ensures seats { self.new.state.seats ≡ self.old.state.seats }
     {
         self.state.set_capacity(capacity);
+        self.tell_readers();
     }
 
     pub(crate) fn tell(&self, which: ClockNumber) -> LruFound

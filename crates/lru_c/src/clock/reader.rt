@@ -2,6 +2,7 @@
 ghost use Rattle.std.specs.Prelude.{◌≡◌};
 ghost use Rattle.lru_c.specs.Clocks.{IsLookup, IsRelease};
 
+use crate::clock::above::Above;
 use crate::clock::told::LruFound;
 use crate::clock::{Entries, tag_of};
 use crate::code;
@@ -14,11 +15,12 @@ use std::sync::Arc;
 #[derive(Drop)]
 pub struct Reader {
     entries: Arc<Entries>,
+    above: Arc<Above>,
 }
 
 impl Reader {
-    pub(crate) fn of(entries: Arc<Entries>) -> Reader {
-        Reader { entries }
+    pub(crate) fn of(entries: Arc<Entries>, above: Arc<Above>) -> Reader {
+        Reader { entries, above }
     }
 
     // Pins the entry of a key.
@@ -40,14 +42,22 @@ impl Reader {
         }
     }
 
-    // Gives back a pin of the entry at a place.
+    // Gives back a pin of the entry at a place. After the last one, tells what is left to do under
+    // the lock.
     #[inline(always)]
     pub(crate) fn unpin(&self, place: u32) -> u32
         ensures { IsRelease result }
     {
         match self.entries.end_hold(place) {
+            Some(Released::Pinned) => code::DONE,
+            Some(Released::Idle) => {
+                if self.above.get() {
+                    code::ABOVE
+                } else {
+                    code::DONE
+                }
+            }
             Some(Released::Invalidated) => code::LAST,
-            Some(_) => code::DONE,
             None => code::STALE,
         }
     }
