@@ -292,6 +292,13 @@ struct KeyRoom<std::string_view> {
   std::vector<char> bytes;
 };
 
+// Returns 0 for a maker that has no start, since the cache did not measure times when it began.
+inline std::uint64_t nanoseconds_since(std::chrono::steady_clock::time_point start) noexcept {
+  if (start == std::chrono::steady_clock::time_point()) return 0;
+  const std::chrono::nanoseconds time = std::chrono::steady_clock::now() - start;
+  return static_cast<std::uint64_t>(time.count());
+}
+
 // Throws the exception for a refusal.
 [[noreturn]] inline void throw_refusal(lru_code code) {
   switch (code) {
@@ -921,7 +928,7 @@ class Cache {
 
   // Gives the node to the core. It is never refused: its caller is the one that makes the value.
   Handle ready(Maker* maker, std::unique_ptr<Node> made) noexcept {
-    const std::uint64_t time = nanoseconds_since(maker->start_);
+    const std::uint64_t time = detail::nanoseconds_since(maker->start_);
     Node* const node = made.release();
     if (listener_) node->notice = std::move(maker->notice_);
     std::unique_lock<std::mutex> lock(mutex_);
@@ -938,7 +945,7 @@ class Cache {
   }
 
   void fail(Maker* maker) noexcept {
-    const std::uint64_t time = nanoseconds_since(maker->start_);
+    const std::uint64_t time = detail::nanoseconds_since(maker->start_);
     std::unique_lock<std::mutex> lock(mutex_);
     delist(maker);
     loads_.load_failures++;
@@ -948,13 +955,6 @@ class Cache {
     maker->notice_.reset();
     assert(code == LRU_LEFT || code == LRU_REMOVED);
     if (code == LRU_LEFT) ended_.notify_all();
-  }
-
-  // Returns 0 for a maker that has no start, since the cache did not measure times when it began.
-  static std::uint64_t nanoseconds_since(std::chrono::steady_clock::time_point start) noexcept {
-    if (start == std::chrono::steady_clock::time_point()) return 0;
-    const std::chrono::nanoseconds time = std::chrono::steady_clock::now() - start;
-    return static_cast<std::uint64_t>(time.count());
   }
 
   // The rest is for a listener. It is cold, so that a cache without one pays nothing for it.

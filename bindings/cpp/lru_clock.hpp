@@ -10,18 +10,20 @@
 //     is specialised with a `written` that returns Words.
 //   - Values are evicted in about the order of their last uses, and not exactly. A value that is
 //     used often is spared several times.
-//   - The capacity is never a strict limit, and the end of a handle evicts nothing. If pinned
-//     values take the total above the capacity, the next call that adds a value, or set_capacity,
-//     evicts down to it.
+//   - The end of a handle evicts nothing. If pinned values take the total above the capacity, the
+//     next call that adds a value, or set_capacity, evicts down to it.
 //   - A value counts once it has been made: values are evicted for it then, and not before `init`
 //     runs. Its charge is that of the call that made it.
+//   - A strict limit may refuse a value once it was made, if others took its room meanwhile. Values
+//     are evicted before one is refused, and before `init` runs too: only then it is known that all
+//     that is left is pinned.
 //   - A caller that waits for a value makes one of its own if the key is taken away meanwhile, or
 //     if the value is evicted at once.
 //   - `read` calls its function without the lock. `contains` is a use of the value. No call tells
 //     how many handles a value has.
 //   - An `insert` for which there is no memory may leave the key without a value.
-//   - There is no listener, stats, reserve, advice_evict or release_and_evict, and no hash of the
-//     program's own.
+//   - `stats` counts what is made, added and evicted, but no hits, misses and waits.
+//   - There is no listener, advice_evict or release_and_evict, and no hash of the program's own.
 //
 // Of the clock of lru.h less is proved than of the other caches: THE CLOCK there says what. This
 // header adds the locks, the waiting and the values. It is ordinary C++, tested with
@@ -31,7 +33,9 @@
 #ifndef CONCURRENT_LRU_CLOCK_HPP
 #define CONCURRENT_LRU_CLOCK_HPP
 
+#include <algorithm>
 #include <cassert>
+#include <chrono>
 #include <condition_variable>
 #include <cstddef>
 #include <cstdint>
@@ -53,6 +57,22 @@ template <class Value, class Key>
 class ClockCache;
 template <class Value, class Key>
 class ClockMaker;
+
+// What the calls on a ClockCache have done since it was constructed, and what it holds now. Hits
+// are not counted: a counter that all threads write would cost a hit as much as a lock. The values
+// inserted are those present and those that have left: insertions == entries + evictions. To count
+// from some time on, subtract the numbers of that time.
+struct ClockStats {
+  std::uint64_t insertions = 0;  // values that were added, by `insert` or by those who made them
+  std::uint64_t evictions = 0;   // values that have left, for whatever reason
+  std::uint64_t entries = 0;     // as len(), total_charge() and capacity()
+  std::uint64_t charge = 0;
+  std::uint64_t capacity = 0;
+  std::uint64_t loads = 0;             // values that were made, by an `init` or with a maker
+  std::uint64_t load_failures = 0;     // values that could not be made, or were refused then
+  std::uint64_t load_nanoseconds = 0;  // the time that these took in all, from the beginning of the
+                                       // making to its end; 0 without set_load_times
+};
 
 namespace detail {
 
@@ -174,8 +194,8 @@ class ClockMaker {
   // returns a handle of it. The maker is empty then. Throws std::bad_alloc and what the constructor
   // throws; the maker still has the duty then. Throws std::logic_error if the maker is empty.
   //
-  // Throws OutOfMemory and Overflow if the cache refuses the value: it is deleted, and the maker
-  // has failed. Other values may have been evicted for it.
+  // Throws OutOfMemory, Overflow and Full if the cache refuses the value: it is deleted, and the
+  // maker has failed. Other values may have been evicted for it.
   template <class... Args>
   ClockHandle<Value, Key> ready(Args&&... args) {
     static_assert(std::is_constructible_v<Value, Args...>,
@@ -202,6 +222,7 @@ class ClockMaker {
   detail::ClockKey key_ = {};
   std::uint64_t charge_ = 0;
   std::uint64_t ticket_ = 0;
+  std::chrono::steady_clock::time_point start_;
 
   // From its beginning to its end a maker stands in the list of its shard. These need the lock.
   ClockMaker** place_ = nullptr;  // what leads to this one: the shard, or the one before
@@ -257,9 +278,14 @@ class alignas(64) ClockCache {
   ClockCache(std::uint64_t capacity, Seed seed)
       : ClockCache(capacity, seed, shards_for(capacity, 1)) {}
   ClockCache(std::uint64_t capacity, Seed seed, std::size_t shards)
-      : shards_(checked(shards), seed) {
-    if (!shards_.open(capacity)) throw OutOfMemory();
-  }
+      : ClockCache(capacity, seed, shards, Limit::kNotStrict) {}
+
+  // The same, with random seeds, and with a limit that may be strict. It is that of each shard: a
+  // value has no room if its own shard has none.
+  ClockCache(std::uint64_t capacity, Limit limit)
+      : ClockCache(capacity, shards_for(capacity, 1), limit) {}
+  ClockCache(std::uint64_t capacity, std::size_t shards, Limit limit)
+      : ClockCache(capacity, Seed::random(), shards, limit) {}
 
   // Deletes all values. There must be no handle and no maker left, as it would dangle; this is
   // asserted. The destructors of the values must not call this cache: a call that finds or adds
@@ -314,9 +340,12 @@ class alignas(64) ClockCache {
   // must be above 0, even if the key has a value. If the value exists already or is made by another
   // caller, its charge does not change.
   //
-  // Throws ZeroCharge, Overflow and OutOfMemory before `init` runs, and nothing changes. If there
-  // is no memory for the value that was made, or its charge is too much by then, std::bad_alloc or
-  // Overflow is thrown as if by `init`; other values may have been evicted for it.
+  // Throws ZeroCharge, Overflow and OutOfMemory before `init` runs, and nothing changes. So does
+  // Full, if the limit is strict, the key has no value and none is being made for it, and there is
+  // no room for one; idle values have been evicted then, unless the charge is above the capacity of
+  // the shard. If there is no memory for the value that was made, or its charge is too much by
+  // then, std::bad_alloc, Overflow or Full is thrown as if by `init`; other values may have been
+  // evicted for it.
   template <class Init>
   Handle get_or_init(Argument key, std::uint64_t charge, Init&& init) {
     static_assert(std::is_invocable_v<Init, const Key&>,
@@ -353,8 +382,10 @@ class alignas(64) ClockCache {
   //
   // Throws ZeroCharge, and Overflow if the charge would take the total of its shard, with the old
   // value, above 2^64 - 1, or the old value has about 2^30 handles: nothing changes then. Throws
-  // std::bad_alloc if there is no memory for the value: the key may have lost its old value then,
-  // and others may have been evicted. The new one is deleted.
+  // Full if the limit is strict and there is no room for the new value; an old value that has a
+  // handle takes room too. The key keeps its old value then, but the idle ones may have been
+  // evicted. Throws std::bad_alloc if there is no memory for the value: the key may have lost its
+  // old value then, and others may have been evicted. The new one is deleted.
   template <class V>
   Handle insert(Argument key, std::uint64_t charge, V&& value) {
     if (charge == 0) detail::throw_refusal(LRU_NO_CHARGE);
@@ -363,6 +394,9 @@ class alignas(64) ClockCache {
     Shard& shard = shards_[hashed.shard];
     Evicted evicted;
     Lock lock(shard.mutex);
+    if (shard.is_strict && !make_way(&shard, hashed, charge, &evicted)) {
+      detail::throw_refusal(LRU_FULL);
+    }
     if (charge > UINT64_MAX - shard.total()) detail::throw_refusal(LRU_OVERFLOW);
     const bool is_awaited = detach(&shard, hashed, &evicted);
     shard.make_room(charge, &evicted);
@@ -494,6 +528,67 @@ class alignas(64) ClockCache {
     }
   }
 
+  // How many values were made, added and evicted since the cache was constructed, and what it
+  // holds: the sums of the numbers of all shards, each at most 2^64 - 1. Costs a hit nothing. No
+  // snapshot, as `len`.
+  ClockStats stats() const {
+    ClockStats sum;
+    for (Shard& shard : shards_) {
+      const Lock lock(shard.mutex);
+      const lru_clock_counts more = shard.counts();
+      add_to(&sum.insertions, more.insertions);
+      add_to(&sum.insertions, more.makings);
+      add_to(&sum.evictions, more.evictions);
+      add_to(&sum.entries, more.entries);
+      add_to(&sum.charge, more.charge);
+      add_to(&sum.capacity, more.capacity);
+      add_to(&sum.loads, more.makings);
+      add_to(&sum.load_failures, more.failures);
+      add_to(&sum.load_nanoseconds, shard.load_nanoseconds);
+    }
+    return sum;
+  }
+
+  // Makes room for an equal share of `entries` values in each shard, rounded up. A shard that gets
+  // more than its share grows. Throws OutOfMemory, and Overflow if a share is above 4,294,966,784;
+  // the shards before have made room then.
+  void reserve(std::size_t entries) {
+    const std::uint64_t share = detail::share(entries, shards_.count());
+    for (Shard& shard : shards_) {
+      Lock lock(shard.mutex);
+      const lru_code code = shard.reserve(static_cast<std::size_t>(share));
+      lock.unlock();
+      if (code != LRU_DONE) detail::throw_refusal(code);
+    }
+  }
+
+  // Sets whether the capacity of each shard is a strict limit, one shard after another. Evicts
+  // nothing: pinned values whose total is above the capacity stay, and until enough of them are
+  // released, no value is added. Costs a hit nothing.
+  void set_strict_limit(bool is_strict) {
+    for (Shard& shard : shards_) {
+      const Lock lock(shard.mutex);
+      shard.is_strict = is_strict;
+    }
+  }
+
+  // Says whether stats() tells how long values took to be made, which it does not at first. A miss
+  // then takes about 0.05 us longer.
+  void set_load_times(bool are_measured) {
+    for (Shard& shard : shards_) {
+      const Lock lock(shard.mutex);
+      shard.times_loads = are_measured;
+    }
+  }
+
+  // Whether the capacity of every shard is a strict limit. No snapshot, as `len`.
+  bool is_limit_strict() const {
+    return std::all_of(shards_.begin(), shards_.end(), [](Shard& shard) {
+      const Lock lock(shard.mutex);
+      return shard.is_strict;
+    });
+  }
+
  private:
   friend Handle;
   friend Maker;
@@ -507,8 +602,16 @@ class alignas(64) ClockCache {
   struct Shard : detail::ClockShard<Node> {
     Maker* makers = nullptr;        // of the values that are being made
     std::condition_variable ended;  // notified when a maker that others wait for has ended
+    std::uint64_t load_nanoseconds = 0;
+    bool times_loads = false;
   };
   using Shards = detail::ClockShards<Shard>;
+
+  ClockCache(std::uint64_t capacity, Seed seed, std::size_t shards, Limit limit)
+      : shards_(checked(shards), seed) {
+    if (!shards_.open(capacity)) throw OutOfMemory();
+    set_strict_limit(limit == Limit::kStrict);
+  }
 
   static std::size_t checked(std::size_t shards) {
     if (shards == 0 || shards > UINT32_MAX) {
@@ -558,6 +661,10 @@ class alignas(64) ClockCache {
     if (code != LRU_DONE && code != LRU_ABOVE) release_locked(shard, place, reader, code);
   }
 
+  static void add_to(std::uint64_t* sum, std::uint64_t more) noexcept {
+    *sum = detail::saturating_add(*sum, more);
+  }
+
   // These take the lock.
 
   [[gnu::cold, gnu::noinline]] void release_locked(std::uint32_t number, std::uint32_t place,
@@ -587,16 +694,14 @@ class alignas(64) ClockCache {
   [[gnu::noinline]] lru_found begin(const Hashed& key, std::uint64_t charge, lru_reader* reader,
                                     bool waits, Maker* maker) {
     Shard& shard = shards_[key.shard];
-    const auto ask = [&] {
-      return lru_clock_begin(&shard.clock, key.hash, key.words.first, key.words.second, charge);
-    };
+    Evicted evicted;
     Lock lock(shard.mutex);
     shard.open_reader(reader);
-    lru_found found = ask();
+    lru_found found = ask(&shard, key, charge, &evicted);
     while (found.code == LRU_WAIT && waits) {
       making(shard, key.words)->is_awaited_ = true;
       shard.mutex.wait(&shard.ended);
-      found = ask();
+      found = ask(&shard, key, charge, &evicted);
     }
     if (found.code == LRU_MAKE) {
       maker->key_ = key;
@@ -604,8 +709,12 @@ class alignas(64) ClockCache {
       maker->ticket_ = found.value;
       enlist(maker);
     }
+    const bool is_timed = shard.times_loads;
     lock.unlock();
-    if (found.code != LRU_MAKE && found.code != LRU_HIT && found.code != LRU_WAIT) {
+    if (found.code == LRU_MAKE) {
+      evicted.clear();
+      if (is_timed) maker->start_ = std::chrono::steady_clock::now();
+    } else if (found.code != LRU_HIT && found.code != LRU_WAIT) {
       detail::throw_refusal(found.code);
     }
     return found;
@@ -614,14 +723,18 @@ class alignas(64) ClockCache {
   // Gives the node to the clock.
   Handle ready(Maker* maker, std::unique_ptr<Node> made) const {
     const Hashed key = maker->key_;
+    const std::uint64_t time = detail::nanoseconds_since(maker->start_);
     Shard& shard = shards_[key.shard];
     Evicted evicted;
     Lock lock(shard.mutex);
+    shard.load_nanoseconds += time;
     shard.make_room(maker->charge_, &evicted);
     made->key = key.words;
     made->charge = maker->is_detached_ ? 0 : maker->charge_;
     const lru_found found = lru_clock_ready(&shard.clock, maker->ticket_, key.hash, maker->charge_,
-                                            detail::word_of(made.get()), false);
+                                            detail::word_of(made.get()), shard.is_strict);
+    // The making of a value for which there is no room would go on.
+    if (found.code == LRU_FULL) lru_clock_fail(&shard.clock, maker->ticket_);
     delist(maker);
     const bool is_awaited = maker->is_awaited_;
     lock.unlock();
@@ -631,8 +744,10 @@ class alignas(64) ClockCache {
   }
 
   void fail(Maker* maker) const noexcept {
+    const std::uint64_t time = detail::nanoseconds_since(maker->start_);
     Shard& shard = shards_[maker->key_.shard];
     Lock lock(shard.mutex);
+    shard.load_nanoseconds += time;
     [[maybe_unused]] const lru_code code = lru_clock_fail(&shard.clock, maker->ticket_);
     delist(maker);
     const bool is_awaited = maker->is_awaited_;
@@ -647,6 +762,7 @@ class alignas(64) ClockCache {
     to->key_ = from->key_;
     to->charge_ = from->charge_;
     to->ticket_ = from->ticket_;
+    to->start_ = from->start_;
     to->is_detached_ = from->is_detached_;
     to->is_awaited_ = from->is_awaited_;
     enlist(to);
@@ -665,6 +781,43 @@ class alignas(64) ClockCache {
   }
 
   // The caller of the rest holds the lock.
+
+  // Does what lru_clock_begin does, if there may be room for a new value: LRU_FULL otherwise. A
+  // value that is there, or is being made, is never refused.
+  static lru_found ask(Shard* shard, const Hashed& key, std::uint64_t charge,
+                       Evicted* evicted) noexcept {
+    if (shard->is_strict && !shard->has_room(charge)) {
+      const lru_found found = shard->find(key);
+      if (found.code != LRU_MISSED) return found;
+      if (making(*shard, key.words) == nullptr) {
+        shard->make_room(charge, evicted);
+        if (!shard->has_room(charge)) return {0, LRU_FULL, 0};
+      }
+    }
+    return lru_clock_begin(&shard->clock, key.hash, key.words.first, key.words.second, charge);
+  }
+
+  // Makes room under a strict limit for a value that takes the place of the key's, and returns
+  // whether there is any. The key's value is room too unless it has a handle. It leaves last, and
+  // stays if even without it there is too little.
+  static bool make_way(Shard* shard, const Hashed& key, std::uint64_t charge,
+                       Evicted* evicted) noexcept {
+    if (shard->has_room(charge)) return true;
+    if (charge > shard->capacity()) return false;
+    const lru_found old = shard->find(key);
+    if (old.code == LRU_HIT) {
+      // It is pinned meanwhile.
+      const std::uint64_t own = node_of(old)->charge;
+      shard->make_room(charge - std::min(charge, own), evicted);
+      if (!shard->has_room(charge, own)) {
+        shard->unpin(old.place, evicted);
+        return false;
+      }
+      if (shard->unpin_and_evict(old.place, evicted)) return true;
+    }
+    shard->make_room(charge, evicted);
+    return shard->has_room(charge);
+  }
 
   // Takes a key's value away, and the making of one. Returns whether callers wait for that. The
   // value is pinned meanwhile, which tells its node. Throws before anything has changed.

@@ -264,9 +264,7 @@ class ClockBlocks {
     // there is room.
     bool MakeRoom(std::uint64_t charge) {
       shard_.make_room(charge, &leaving_);
-      const std::uint64_t capacity = shard_.capacity();
-      const std::uint64_t total = shard_.total();
-      return total <= capacity && charge <= capacity - total;
+      return shard_.has_room(charge);
     }
 
     // Adds an entry and pins it, and returns whether it takes the place of another one of the key.

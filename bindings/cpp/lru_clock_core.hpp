@@ -198,12 +198,20 @@ struct alignas(64) ClockShard {
   // Pins a new value of a key, or the one that it has: LRU_HIT.
   lru_found add(const ClockKey& key, std::uint64_t charge, Node* node) noexcept {
     return lru_clock_add(&clock, key.hash, key.words.first, key.words.second, charge,
-                         word_of(node), false);
+                         word_of(node), is_strict);
   }
 
-  // Evicts until there is room for another charge, or all that is left is pinned.
+  // Whether the capacity has room for another charge, once one of the charges has gone.
+  bool has_room(std::uint64_t charge, std::uint64_t gone = 0) noexcept {
+    const std::uint64_t room = capacity();
+    return charge <= room && total() - gone <= room - charge;
+  }
+
+  // Evicts until there is room for another charge, or all that is left is pinned. Evicts nothing
+  // for a charge that a strict limit refuses in any case.
   template <class Evicted>
   void make_room(std::uint64_t charge, Evicted* evicted) noexcept {
+    if (is_strict && charge > capacity()) return;
     lru_left left;
     while (lru_clock_make_room(&clock, charge, &left) == LRU_GONE) take(left, evicted);
   }
@@ -251,11 +259,13 @@ struct alignas(64) ClockShard {
     if (lru_reader_unpin(&reader, place) == LRU_LAST) collect(place, evicted);
   }
 
-  // Gives a pin back, and takes out the value if that was its last pin.
+  // Gives a pin back, and takes out the value if that was its last pin, which it returns.
   template <class Evicted>
-  void unpin_and_evict(std::uint32_t place, Evicted* evicted) noexcept {
+  bool unpin_and_evict(std::uint32_t place, Evicted* evicted) noexcept {
     lru_left left;
-    if (lru_clock_release_and_evict(&clock, place, &left) == LRU_GONE) take(left, evicted);
+    const bool is_last = lru_clock_release_and_evict(&clock, place, &left) == LRU_GONE;
+    if (is_last) take(left, evicted);
+    return is_last;
   }
 
   // Ends what an unpin without the mutex has begun, which answered with this code: gives the pin
@@ -273,6 +283,15 @@ struct alignas(64) ClockShard {
     return code;
   }
 
+  // Makes room in memory for so many values.
+  lru_code reserve(std::size_t entries) noexcept { return lru_clock_reserve(&clock, entries); }
+
+  lru_clock_counts counts() noexcept {
+    lru_clock_counts counts = {};
+    lru_clock_stats(&clock, &counts);
+    return counts;
+  }
+
   std::uint64_t total() noexcept { return lru_clock_total(&clock).value; }
   std::uint64_t pinned_charge() noexcept { return lru_clock_pinned_charge(&clock).value; }
   std::uint64_t capacity() noexcept { return lru_clock_capacity(&clock).value; }
@@ -284,6 +303,7 @@ struct alignas(64) ClockShard {
   Mutex mutex;
   lru_clock clock = {};
   lru_reader reader = {};  // for any thread that holds the mutex
+  bool is_strict = false;  // whether nothing is added that takes the total above the capacity
 
  private:
   template <class Evicted>
@@ -309,7 +329,7 @@ class ClockShards {
     for (Shard& shard : *this) {
       if (lru_clock_new(share(capacity, count_), &shard.clock) != LRU_DONE ||
           lru_reader_new(&shard.clock, &shard.reader) != LRU_DONE ||
-          lru_clock_reserve(&shard.clock, entries) != LRU_DONE) {
+          shard.reserve(entries) != LRU_DONE) {
         return false;
       }
     }

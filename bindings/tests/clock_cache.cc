@@ -391,6 +391,238 @@ void the_capacity_is_shared_and_set() {
   CHECK(cache.len() == 1 && cache.capacity() == 0 && *held == 1);
 }
 
+// Whether a call throws Full.
+template <class Call>
+bool is_full(Call call) {
+  return throws<lru::Full>(call);
+}
+
+void a_strict_limit_has_no_room_beside_pinned_values() {
+  Numbers cache(10, kOne, lru::Limit::kStrict);
+  CHECK(cache.is_limit_strict() && !Numbers(10).is_limit_strict());
+  CHECK(Numbers(10, lru::Limit::kStrict).is_limit_strict());
+  auto one = cache.get_or_init(1, 6, returns(1));
+  cache.get_or_init(2, 4, returns(2));
+  int calls = 0;
+  const auto init = [&](std::uint64_t) { return calls++; };
+  // What is above the capacity evicts nothing.
+  CHECK(is_full([&] { cache.get_or_init(3, 11, init); }));
+  CHECK(is_full([&] { cache.begin(3, UINT64_MAX); }));
+  CHECK(is_full([&] { cache.insert(3, 11, 3); }) && is_full([&] { cache.insert(2, 11, 3); }));
+  CHECK(cache.len() == 2 && *cache.get(2) == 2);
+  // Idle values leave before a value is refused. The old value has a handle, so it takes room.
+  CHECK(is_full([&] { cache.insert(1, 5, 3); }));
+  CHECK(!cache.contains(2) && *one == 1 && cache.get(1).get() == one.get());
+  CHECK(is_full([&] { cache.get_or_init(3, 5, init); }) && is_full([&] { cache.begin(3, 5); }));
+  CHECK(is_full([&] { cache.try_begin(3, 5); }) && is_full([&] { cache.insert(3, 5, 3); }));
+  CHECK(calls == 0 && shown(cache) == "1=1*6 " && !cache.get(3));
+
+  // A value that is there is found, also with the lock, as by a thread that has no reader yet.
+  CHECK(*cache.get_or_init(1, 9, init) == 1 && *cache.begin(1, 9).handle == 1);
+  std::thread([&] { CHECK(*cache.get_or_init(1, 9, init) == 1 && calls == 0); }).join();
+  // All idle values leave for a new one, however often they were used.
+  for (std::uint64_t n = 11; n <= 14; n++) {
+    cache.insert(n, 1, 1);
+    for (int use = 0; use < 5; use++) CHECK(cache.get(n));
+  }
+  CHECK(*cache.get_or_init(3, 4, returns(3)) == 3 && shown(cache) == "1=1*6 3=3*4 ");
+  one.reset();
+  CHECK(*cache.insert(4, 10, 5) == 5 && shown(cache) == "4=5*10 ");
+
+  // The limit is set at any time, whatever the total is.
+  cache.set_strict_limit(false);
+  CHECK(!cache.is_limit_strict());
+  auto large = cache.insert(5, 11, 6);
+  cache.set_strict_limit(true);
+  CHECK(cache.is_limit_strict() && cache.total_charge() == 11 && *large == 6);
+  CHECK(is_full([&] { cache.get_or_init(6, 1, init); }) && calls == 0);
+  large.reset();
+  CHECK(*cache.get_or_init(6, 1, init) == 0 && calls == 1 && cache.total_charge() == 1);
+}
+
+void the_room_for_a_value_may_be_taken_while_it_is_made() {
+  {
+    Objects cache(10, kOne, lru::Limit::kStrict);
+    const auto is_refused = [&](auto take, std::int64_t others) {
+      auto maker = cache.begin(1, 6).maker;
+      take();
+      auto held = cache.insert(2, 5, std::uint64_t{2});
+      cache.insert(3, 1, std::uint64_t{3});
+      const std::uint64_t failures = cache.stats().load_failures;
+      CHECK(is_full([&] { maker.ready(std::uint64_t{1}); }));
+      CHECK(!maker && alive == 1 + others && !cache.get(1) && !cache.get(3));
+      CHECK(cache.stats().load_failures == failures + 1);
+      held.reset();
+    };
+    is_refused([] {}, 0);
+    is_refused([&] { cache.invalidate(1); }, 0);
+    // Idle values are room then too.
+    auto maker = cache.begin(1, 6).maker;
+    cache.insert(2, 5, std::uint64_t{2});
+    CHECK(maker.ready(std::uint64_t{1})->key == 1 && !cache.get(2) && cache.total_charge() == 6);
+    cache.clear();
+
+    // A loader takes it itself, and the capacity is lowered.
+    Objects::Handle held;
+    CHECK(is_full([&] {
+      cache.get_or_init(1, 6, [&](std::uint64_t n) {
+        held = cache.insert(2, 5, std::uint64_t{2});
+        return n;
+      });
+    }));
+    held = cache.insert(2, 2, std::uint64_t{2});
+    held.reset();
+    CHECK(is_full([&] {
+      cache.get_or_init(1, 6, [&](std::uint64_t n) {
+        cache.set_capacity(5);
+        return n;
+      });
+    }));
+    CHECK(cache.len() == 1 && alive == 1 && cache.get(2)->key == 2);
+    // Nobody waits for a making that was refused.
+    cache.set_capacity(10);
+    CHECK(cache.begin(1, 6).maker);
+  }
+  CHECK(alive == 0 && wrong == 0);
+}
+
+void an_insert_has_the_room_of_the_old_value() {
+  Numbers cache(10, kOne, lru::Limit::kStrict);
+  cache.insert(1, 5, 1);
+  cache.insert(2, 5, 2);
+  CHECK(*cache.insert(1, 5, 3) == 3 && shown(cache) == "1=3*5 2=2*5 ");
+  CHECK(*cache.insert(2, 1, 4) == 4 && shown(cache) == "1=3*5 2=4*1 ");
+  CHECK(*cache.insert(2, 5, 5) == 5 && shown(cache) == "1=3*5 2=5*5 ");
+  CHECK(*cache.insert(2, 3, 6) == 6 && shown(cache) == "1=3*5 2=6*3 ");
+  // With a handle it takes room, and other values leave for the new one, if that helps.
+  auto held = cache.get(1);
+  CHECK(*cache.insert(1, 5, 7) == 7 && shown(cache) == "1=7*5 " && cache.total_charge() == 10);
+  CHECK(is_full([&] { cache.insert(1, 6, 8); }) && shown(cache) == "1=7*5 ");
+  CHECK(*cache.insert(1, 4, 8) == 8 && shown(cache) == "1=8*4 " && cache.total_charge() == 9);
+  held.reset();
+  CHECK(cache.total_charge() == 4);
+  // A value that is refused leaves the old one, if that is idle too.
+  held = cache.insert(2, 6, 2);
+  CHECK(is_full([&] { cache.insert(1, 5, 9); }) && shown(cache) == "1=8*4 2=2*6 ");
+  CHECK(cache.pinned_charge() == 6);
+  held.reset();
+
+  // The old value is room also if the total is above the capacity.
+  cache.clear();
+  cache.set_strict_limit(false);
+  held = cache.insert(1, 6, 1);
+  auto other = cache.insert(2, 5, 2);
+  cache.set_strict_limit(true);
+  CHECK(is_full([&] { cache.insert(2, 1, 3); }) && cache.get(2).get() == other.get());
+  other.reset();
+  CHECK(*cache.insert(2, 1, 3) == 3 && shown(cache) == "1=1*6 2=3*1 ");
+}
+
+void a_strict_limit_is_that_of_each_shard() {
+  constexpr std::size_t kShards = 16;
+  Numbers cache(kShards, lru::Seed(0), kShards);
+  std::vector<Numbers::Handle> held;
+  const auto hold = [&](std::uint64_t first) {
+    for (std::uint64_t n = first; n < first + 500; n++) {
+      try {
+        held.push_back(n % 2 == 0 ? cache.insert(n, 1, 1) : cache.get_or_init(n, 1, returns(1)));
+      } catch (const lru::Full&) {
+      }
+    }
+  };
+  cache.set_strict_limit(true);
+  hold(0);
+  CHECK(cache.is_limit_strict() && held.size() == kShards && cache.total_charge() == kShards);
+  cache.set_strict_limit(false);
+  hold(1000);
+  CHECK(!cache.is_limit_strict() && held.size() == kShards + 500);
+}
+
+// How many requests for memory a call makes.
+template <class Call>
+long requests_of(Call call) {
+  constexpr long kMany = 1000000;
+  refused = kMany;
+  call();
+  return kMany - refused.exchange(0);
+}
+
+void room_is_reserved_in_each_shard() {
+  Numbers cache(1000, lru::Seed(0), std::size_t{4}), other(1000, lru::Seed(0), std::size_t{4});
+  const auto requests = [](Numbers* filled) {
+    // This makes the readers.
+    for (std::uint64_t n = 0; n < 200; n++) filled->get(n);
+    return requests_of([&] {
+      for (std::uint64_t n = 0; n < 200; n++) filled->insert(n, 1, 1);
+    });
+  };
+  cache.reserve(400);
+  // Each value is one.
+  CHECK(requests(&cache) == 200 && requests(&other) > 200);
+  CHECK(throws<lru::Overflow>([&] { cache.reserve(SIZE_MAX); }));
+  refused = 1;
+  CHECK(throws<lru::OutOfMemory>([&] { cache.reserve(100000); }) && refused == 0);
+  CHECK(cache.len() == 200 && *cache.get(7) == 1);
+}
+
+void stats_tell_what_was_made_added_and_evicted() {
+  Numbers cache(1600, std::size_t{16});
+  CHECK(cache.stats().capacity == 1600 && cache.stats().insertions == 0);
+  for (std::uint64_t n = 0; n < 100; n++) cache.insert(n, 2, 1);
+  for (std::uint64_t n = 50; n < 150; n++) cache.get_or_init(n, 3, returns(1));
+  cache.insert(7, 1, 1);
+  for (std::uint64_t n = 200; n < 210; n++) { const auto dropped = cache.begin(n, 1); }
+  lru::ClockStats stats = cache.stats();
+  CHECK(stats.insertions == 151 && stats.evictions == 1 && stats.entries == 150);
+  CHECK(stats.charge == 349 && stats.charge == cache.total_charge() && stats.capacity == 1600);
+  CHECK(stats.loads == 50 && stats.load_failures == 10 && stats.load_nanoseconds == 0);
+  cache.invalidate(7);
+  cache.clear();
+  stats = cache.stats();
+  CHECK(stats.insertions == 151 && stats.evictions == 151 && stats.entries == 0);
+  // What is refused before it is made is no load.
+  cache.set_strict_limit(true);
+  CHECK(is_full([&] { cache.begin(1, 1601); }) && cache.stats().load_failures == 10);
+}
+
+void the_time_of_loads_is_measured() {
+  using std::chrono::milliseconds;
+  // Deleting a value takes long, and is no part of a load.
+  struct Slow {
+    explicit Slow(int n) : number(n) {}
+    ~Slow() { std::this_thread::sleep_for(milliseconds(50)); }
+    int number;
+  };
+  using Clock = std::chrono::steady_clock;
+  lru::ClockCache<Slow, int> cache(1, kOne, lru::Limit::kStrict);
+  const auto took = [&](auto call) {
+    const std::uint64_t before = cache.stats().load_nanoseconds;
+    const Clock::time_point start = Clock::now();
+    call();
+    const std::chrono::nanoseconds all = Clock::now() - start;
+    const std::chrono::nanoseconds load(cache.stats().load_nanoseconds - before);
+    CHECK(load <= all);
+    return std::pair(load, all);
+  };
+  const auto slowly = [](int n) { return std::this_thread::sleep_for(milliseconds(20)), n; };
+  const auto make = [&](int n) { return took([&] { cache.get_or_init(n, 1, slowly); }); };
+  CHECK(make(1).first.count() == 0);
+  cache.set_load_times(true);
+  // It evicts a value first.
+  const auto made = make(2);
+  CHECK(made.first >= milliseconds(20) && made.first + milliseconds(50) <= made.second);
+  const auto given_up = took([&] {
+    auto begun = cache.begin(3, 1);
+    const auto moved = std::move(begun.maker);
+    slowly(3);
+  });
+  CHECK(given_up.first >= milliseconds(20) && cache.stats().load_failures == 1);
+  CHECK(took([&] { cache.insert(2, 1, 2), cache.get(2), cache.get_or_init(2, 1, slowly); })
+            .first.count() == 0);
+  cache.set_load_times(false);
+  CHECK(make(4).first.count() == 0 && cache.stats().loads == 3);
+}
+
 // Each shard has an eighth of the capacity more than its share of the keys.
 void keys_are_spread_evenly() {
   using Cache = lru::ClockCache<int, lru::Words>;
@@ -547,6 +779,21 @@ void who_waits_for_a_key_that_is_taken_away_goes_on() {
   goes_on([](Numbers& cache) { cache.insert(1, 1, 3); }, 3);
 }
 
+// One that waits for a value that is refused asks for room itself.
+void who_waits_for_a_value_that_is_refused_goes_on() {
+  Numbers cache(10, kOne, lru::Limit::kStrict);
+  auto maker = cache.begin(1, 6).maker;
+  auto fits = asks([&] { return *cache.get_or_init(1, 5, returns(2)); });
+  const auto held = cache.insert(2, 5, 2);
+  // There is no room, but a value that is being made is waited for.
+  CHECK(!cache.try_begin(1, 9).handle && !cache.try_begin(1, 9).maker);
+  CHECK(is_full([&] { maker.ready(1); }) && in_time(std::move(fits)) == 2);
+  maker = cache.begin(3, 1).maker;
+  auto is_too_large = asks([&] { return is_full([&] { cache.get_or_init(3, 9, returns(3)); }); });
+  maker.fail();
+  CHECK(in_time(std::move(is_too_large)) && shown(cache) == "2=2*5 ");
+}
+
 // --------------------------------------------------------------------------------------- threads
 
 // The first call of a thread on a shard finds what is there, and so does the last handle of one.
@@ -593,6 +840,38 @@ void a_key_that_is_replaced_always_has_a_value() {
     is_done = true;
     for (std::thread& thread : threads) thread.join();
     CHECK(missing == 0 && cache.len() == 1);
+  }
+  CHECK(alive == 0 && wrong == 0);
+}
+
+// Whatever threads pin and release, the total stays within a strict limit.
+void the_total_stays_within_a_strict_limit() {
+  constexpr std::uint64_t kCapacity = 20;
+  {
+    Objects cache(kCapacity, kOne, lru::Limit::kStrict);
+    std::atomic<std::uint64_t> added{0}, refusals{0}, above{0};
+    std::vector<std::thread> threads;
+    for (std::uint64_t t = 0; t < 4; t++) {
+      threads.emplace_back([&, t] {
+        Random random(t);
+        Objects::Handle held[4];
+        for (int turn = 0; turn < 10000; turn++) {
+          const std::uint64_t n = random.below(30), charge = 1 + random.below(4);
+          Objects::Handle& slot = held[random.below(4)];
+          try {
+            slot = random.below(2) == 0 ? cache.insert(n, charge, n)
+                                        : cache.get_or_init(n, charge, makes(n));
+            added++;
+          } catch (const lru::Full&) {
+            refusals++;
+            slot.reset();
+          }
+          above += cache.total_charge() > kCapacity;
+        }
+      });
+    }
+    for (std::thread& thread : threads) thread.join();
+    CHECK(above == 0 && added > 1000 && refusals > 100 && cache.pinned_charge() == 0);
   }
   CHECK(alive == 0 && wrong == 0);
 }
@@ -829,6 +1108,13 @@ int main() {
   values_leave_by_prune_clear_and_erase_if();
   a_predicate_that_throws_erases_nothing_of_its_shard();
   the_capacity_is_shared_and_set();
+  a_strict_limit_has_no_room_beside_pinned_values();
+  the_room_for_a_value_may_be_taken_while_it_is_made();
+  an_insert_has_the_room_of_the_old_value();
+  a_strict_limit_is_that_of_each_shard();
+  room_is_reserved_in_each_shard();
+  stats_tell_what_was_made_added_and_evicted();
+  the_time_of_loads_is_measured();
   keys_are_spread_evenly();
   keys_are_of_any_type_that_is_written_as_words();
   values_may_be_neither_movable_nor_copyable();
@@ -836,8 +1122,10 @@ int main() {
   others_wait_for_one_making();
   one_that_waits_makes_what_another_failed_to();
   who_waits_for_a_key_that_is_taken_away_goes_on();
+  who_waits_for_a_value_that_is_refused_goes_on();
   a_new_thread_finds_and_releases();
   a_key_that_is_replaced_always_has_a_value();
+  the_total_stays_within_a_strict_limit();
   threads_have_numbers_and_lanes();
   a_thread_that_is_about_to_end_goes_on();
   const long requests = one_request_is_refused();
@@ -847,6 +1135,6 @@ int main() {
   a_handle_that_outlives_its_cache_is_asserted_against();
   a_destructor_that_calls_a_cache_that_is_destroyed_is_told_the_rule();
   CHECK(requests > 100);
-  std::printf("lru_clock.hpp: 32 tests, %d checks failed\n", failed_checks);
+  std::printf("lru_clock.hpp: 41 tests, %d checks failed\n", failed_checks);
   return failed_checks == 0 ? 0 : 1;
 }
