@@ -18,8 +18,11 @@
 //!   refused.
 //! - [`contains`](Cache::contains) counts as a use.
 //! - [`Maker::ready`] may be refused.
+//! - A strict limit ([`set_strict_limit`](Cache::set_strict_limit)) may refuse a value once it was
+//!   made, if others took its room meanwhile. Values are evicted before one is refused, and before
+//!   the making begins too: only then it is known that all that is left is pinned.
 //! - [`stats`](Cache::stats) counts what is made, stored and evicted, but no hits and misses.
-//! - It has no strict limit, room that is reserved, `advice_evict` and `release_and_evict`.
+//! - It has no `advice_evict` and `release_and_evict`.
 //!
 //! A cache has a reader of each shard for each thread that calls it, in 64 bytes for four shards.
 //! When a thread ends, its readers are left for another one. They are freed with the cache.
@@ -62,6 +65,7 @@ use std::ops::Deref;
 use std::panic::AssertUnwindSafe;
 use std::sync::{Arc, MutexGuard};
 use std::task::{Context, Poll};
+use std::time::{Duration, Instant};
 
 use crate::error::{self, GetError, Refusal};
 use crate::ffi;
@@ -82,7 +86,8 @@ const UNKNOWN_CHARGE: u64 = 1;
 ///
 /// A [`CacheHandle`] pins its value: a pinned value is not evicted. A value without a handle is
 /// idle. Idle values are evicted to make room for a value that is stored, until the total of all
-/// charges is not above the capacity. Pinned values may take the total above the capacity.
+/// charges is not above the capacity. Pinned values may take the total above the capacity, unless
+/// the limit is strict ([`set_strict_limit`](Self::set_strict_limit)).
 ///
 /// Each shard has an equal share of the capacity, rounded up, and a lock, which every call takes
 /// that does not find a value. A value is evicted when its own shard is full. So if charges are
@@ -139,6 +144,7 @@ pub struct Cache<K: WordsKey + ?Sized, V> {
     shards: Box<[Shard<V>]>,
     seed: u64,
     listener: Option<AssertUnwindSafe<Listener<V>>>,
+    times_loads: bool,
     keys: PhantomData<fn(&K)>,
     // Threads that share a cache also share its values, through handles.
     values: PhantomData<V>,
@@ -190,6 +196,7 @@ impl<K: WordsKey + ?Sized, V> Cache<K, V> {
             shards: shards.into_boxed_slice(),
             seed,
             listener: None,
+            times_loads: false,
             keys: PhantomData,
             values: PhantomData,
         })
@@ -228,6 +235,14 @@ impl<K: WordsKey + ?Sized, V> Cache<K, V> {
         listener: impl Fn(Leaving<'_, V, [u64; 2]>) + Send + Sync + 'static,
     ) -> Self {
         self.listener = Some(AssertUnwindSafe(Arc::new(listener)));
+        self
+    }
+
+    /// Also measures how long it takes to make values, as [`Stats::load_time`] tells. A miss then
+    /// takes about 0.1 microseconds longer.
+    #[must_use]
+    pub fn with_load_times(mut self) -> Self {
+        self.times_loads = true;
         self
     }
 
@@ -294,9 +309,12 @@ impl<K: WordsKey + ?Sized, V> Cache<K, V> {
     ///
     /// [`Refusal::ZeroCharge`] if `charge` is 0, even if the key has a value. [`Refusal::Overflow`]
     /// if the total of the charges of the shard would exceed `u64::MAX`, or if the value has about
-    /// a billion handles. [`Refusal::Memory`] if there is no memory for a new entry. In these cases
-    /// no value is stored. If `init` has run, its value is dropped, and others may have been
-    /// evicted for it.
+    /// a billion handles. [`Refusal::Memory`] if there is no memory for a new entry.
+    /// [`Refusal::Full`] if the limit is strict, the key has no value and none is being made for
+    /// it, and there is no room for one beside the pinned values; also after `init` has run, if
+    /// others have taken the room. In these cases no value is stored. If `init` has run, its value
+    /// is dropped. Others may have been evicted for it, and in the case of [`Refusal::Full`] also
+    /// if `init` has not run.
     #[inline]
     pub fn get_or_init<Q>(
         &self,
@@ -347,8 +365,9 @@ impl<K: WordsKey + ?Sized, V> Cache<K, V> {
     /// # Errors
     ///
     /// [`Refusal::ZeroCharge`] if `init` returns a charge of 0: its value is dropped, and if others
-    /// are waiting, one of them makes the value. [`Refusal::Overflow`] and [`Refusal::Memory`] as
-    /// [`get_or_init`](Self::get_or_init).
+    /// are waiting, one of them makes the value. [`Refusal::Overflow`], [`Refusal::Memory`] and
+    /// [`Refusal::Full`] as [`get_or_init`](Self::get_or_init); before `init` runs, [`Refusal::Full`]
+    /// only if there is no room for a charge of 1.
     ///
     /// # Examples
     ///
@@ -711,9 +730,11 @@ impl<K: WordsKey + ?Sized, V> Cache<K, V> {
     /// # Errors
     ///
     /// [`Refusal::ZeroCharge`] if `charge` is 0. [`Refusal::Overflow`] if the total of the charges
-    /// of the shard, with the old value, would exceed `u64::MAX`. The key keeps its old value then.
-    /// [`Refusal::Memory`] if there is no memory for a new entry. The key has no value then, and
-    /// values may have been evicted. The new value is dropped in each case.
+    /// of the shard, with the old value, would exceed `u64::MAX`. [`Refusal::Full`] if the limit is
+    /// strict and there is no room for the new value beside the pinned ones; an old value that has
+    /// a handle takes room too, and other values may have been evicted. The key keeps its old value
+    /// then. [`Refusal::Memory`] if there is no memory for a new entry. The key has no value then,
+    /// and values may have been evicted. The new value is dropped in each case.
     ///
     /// # Examples
     ///
@@ -978,6 +999,60 @@ impl<K: WordsKey + ?Sized, V> Cache<K, V> {
         }
     }
 
+    /// Makes room for `entries` values, an equal share in each shard, rounded up, so that no call
+    /// that stores one makes room for more under the lock until there are more in its shard.
+    ///
+    /// # Errors
+    ///
+    /// [`Refusal::Memory`] if there is no memory for them. [`Refusal::Overflow`] if a share is above
+    /// 4,294,966,784. The shards before the one that refused have room then.
+    pub fn reserve(&self, entries: usize) -> Result<(), Refusal> {
+        let share = entries.div_ceil(self.shards.len());
+        let mut shards = self.shards.iter();
+        shards.try_for_each(|shard| shard.lock().reserve(share))
+    }
+
+    /// Sets whether the capacity of each shard is a strict limit, which it is not in a new cache,
+    /// one shard after another. It costs a hit nothing.
+    ///
+    /// If it is, no value is stored whose charge, with the charges of the pinned values of its
+    /// shard, is above the capacity of the shard: [`get_or_init`](Self::get_or_init),
+    /// [`insert`](Self::insert), [`Maker::ready`] and the calls named after them return
+    /// [`Refusal::Full`]. All idle values are evicted before that, unless the charge alone is above
+    /// the capacity. A value that exists is found as before. The total is then never above the
+    /// capacity, unless it is already, or [`set_capacity`](Self::set_capacity) lowers the capacity
+    /// below the charges of the pinned values.
+    ///
+    /// # Examples
+    ///
+    /// ```
+    /// use concurrent_lru_proved::Refusal;
+    /// use concurrent_lru_proved::clock::Cache;
+    ///
+    /// # fn main() -> Result<(), Refusal> {
+    /// let cache = Cache::<u64, &str>::new(10)?;
+    /// cache.set_strict_limit(true);
+    /// let seven = cache.insert(&7, 6, "seven")?;
+    /// assert_eq!(cache.insert(&8, 5, "eight").err(), Some(Refusal::Full));
+    /// drop(seven); // idle, so it leaves
+    /// assert_eq!(*cache.insert(&8, 5, "eight")?, "eight");
+    /// # Ok(())
+    /// # }
+    /// ```
+    pub fn set_strict_limit(&self, strict: bool) {
+        for shard in &self.shards {
+            shard.lock().set_strict_limit(strict);
+        }
+    }
+
+    /// Returns whether the capacity of every shard is a strict limit. No snapshot, as
+    /// [`len`](Self::len).
+    pub fn is_limit_strict(&self) -> bool {
+        self.shards
+            .iter()
+            .all(|shard| shard.lock().is_limit_strict())
+    }
+
     /// An empty list, whose values the listener is told of.
     fn left(&self) -> Left<'_, V> {
         Left::new(self.listener.as_deref())
@@ -1069,16 +1144,27 @@ impl<K: WordsKey + ?Sized, V> Cache<K, V> {
         route: Route,
         charge: u64,
     ) -> Result<Answer<'a, K, V>, Refusal> {
-        Ok(match state.begin(route, charge)? {
-            Turn::Hit(pin) => Answer::Begun(Begun::Hit(self.handle(route.shard, pin))),
-            Turn::Make(ticket) => Answer::Begun(Begun::Make(Maker {
+        let mut left = self.left();
+        let begun = match state.begin(route, charge, &mut left) {
+            Ok(Turn::Wait(ticket)) => return Ok(Answer::Wait(state, ticket)),
+            Ok(Turn::Hit(pin)) => Ok(Begun::Hit(self.handle(route.shard, pin))),
+            Ok(Turn::Make(ticket)) => Ok(Begun::Make(Maker {
                 cache: self,
                 route,
                 charge,
                 ticket,
+                begun: None,
             })),
-            Turn::Wait(ticket) => Answer::Wait(state, ticket),
-        })
+            Err(refusal) => Err(refusal),
+        };
+        drop(state);
+        // If the drop of a value panics, what was begun is dropped too.
+        drop(left);
+        let mut begun = begun?;
+        if let Begun::Make(maker) = &mut begun {
+            maker.begun = self.times_loads.then(Instant::now);
+        }
+        Ok(Answer::Begun(begun))
     }
 
     /// Blocks the thread until the making with this ticket has ended, and asks again, until this
@@ -1198,6 +1284,10 @@ pub struct Stats {
     /// Values that could not be made, as `init` failed, panicked or was dropped or a [`Maker`] was
     /// dropped, and those that were made and refused.
     pub load_failures: u64,
+    /// The time that these took in all, from the call that was to make the value until it was
+    /// stored or could not be. Zero unless the cache was created
+    /// [`with_load_times`](Cache::with_load_times).
+    pub load_time: Duration,
     /// Values present, as [`len`](Cache::len) returns it.
     pub entries: u64,
     /// The total of their charges, as [`total_charge`](Cache::total_charge) returns it.
@@ -1215,6 +1305,7 @@ impl Stats {
             evictions: self.evictions.saturating_add(other.evictions),
             loads: self.loads.saturating_add(other.loads),
             load_failures: self.load_failures.saturating_add(other.load_failures),
+            load_time: self.load_time.saturating_add(other.load_time),
             entries: self.entries.saturating_add(other.entries),
             charge: self.charge.saturating_add(other.charge),
             capacity: self.capacity.saturating_add(other.capacity),
@@ -1256,17 +1347,24 @@ pub struct Maker<'a, K: WordsKey + ?Sized, V> {
     route: Route,
     charge: u64,
     ticket: u64,
+    /// Is `None` if the cache does not measure how long it takes to make values.
+    begun: Option<Instant>,
 }
 
 impl<'a, K: WordsKey + ?Sized, V> Maker<'a, K, V> {
+    fn time(&self) -> Duration {
+        self.begun.map_or(Duration::ZERO, |begun| begun.elapsed())
+    }
+
     /// Makes `value` the value, which those that wait get too, and returns a handle of it. If the
     /// key was invalidated or got another value meanwhile, only this caller gets the value.
     ///
     /// # Errors
     ///
     /// [`Refusal::Overflow`] if the total of the charges of the shard would exceed `u64::MAX`.
-    /// [`Refusal::Memory`] if there is no memory for a new entry. The making has failed then, and
-    /// the value is dropped. Others may have been evicted for it.
+    /// [`Refusal::Memory`] if there is no memory for a new entry. [`Refusal::Full`] if the limit is
+    /// strict and there is no room any more. The making has failed then, and the value is dropped.
+    /// Others may have been evicted for it.
     pub fn ready(self, value: V) -> Result<CacheHandle<'a, K, V>, Refusal> {
         let charge = self.charge;
         self.ready_with(value, charge)
@@ -1305,10 +1403,11 @@ impl<'a, K: WordsKey + ?Sized, V> Maker<'a, K, V> {
         }
         let this = ManuallyDrop::new(self);
         let node = Node::new(this.route.key, charge, value);
+        let time = this.time();
         let mut left = this.cache.left();
         let shard = &this.cache.shards[this.route.shard];
         let mut state = shard.lock();
-        let (made, ended) = state.ready(this.route, this.ticket, node, &mut left);
+        let (made, ended) = state.ready(this.route, this.ticket, node, time, &mut left);
         let made = made.map(|pin| this.cache.handle(this.route.shard, pin));
         shard.unlock(state, ended);
         // As in `insert`.
@@ -1326,9 +1425,10 @@ impl<K: WordsKey + ?Sized, V> fmt::Debug for Maker<'_, K, V> {
 
 impl<K: WordsKey + ?Sized, V> Drop for Maker<'_, K, V> {
     fn drop(&mut self) {
+        let time = self.time();
         let shard = &self.cache.shards[self.route.shard];
         let mut state = shard.lock();
-        let ended = state.fail(self.ticket);
+        let ended = state.fail(self.ticket, time);
         shard.unlock(state, ended);
     }
 }
@@ -1581,6 +1681,29 @@ mod tests {
         });
         Ok(())
     }
+
+    #[test]
+    fn room_is_reserved_in_each_shard() -> Result<(), Refusal> {
+        let shards = NonZeroUsize::new(4).unwrap();
+        let cache = Cache::<u64, u64>::with_seed(1000, shards, 0)?;
+        let places = || {
+            let shards = cache.shards.iter();
+            shards
+                .map(|shard| shard.lock().places())
+                .collect::<Vec<_>>()
+        };
+        assert_eq!(places(), [0; 4]);
+        cache.reserve(398)?;
+        let reserved = places();
+        assert!(reserved.iter().all(|places| *places >= 100));
+        for key in 0..200 {
+            cache.insert(&key, 1, key)?;
+        }
+        assert_eq!((cache.len(), places()), (200, reserved));
+        assert_eq!(cache.reserve(usize::MAX), Err(Refusal::Overflow));
+        Ok(())
+    }
+
     #[test]
     fn what_a_reader_misses_is_found_with_the_lock() -> Result<(), Refusal> {
         let cache = Cache::<u64, u64>::with_shards(10, NonZeroUsize::MIN)?;

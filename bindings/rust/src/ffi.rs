@@ -224,7 +224,9 @@ unsafe extern "C" {
     ) -> u32;
     pub fn lru_clock_collect(clock: *mut Handle, place: u32, left: *mut Left) -> u32;
     pub fn lru_clock_prune(clock: *mut Handle, next: *mut u32, left: *mut Left) -> u32;
+    pub fn lru_clock_release_and_evict(clock: *mut Handle, place: u32, left: *mut Left) -> u32;
     pub fn lru_clock_set_capacity(clock: *mut Handle, capacity: u64) -> u32;
+    pub fn lru_clock_reserve(clock: *mut Handle, entries: usize) -> u32;
     pub fn lru_clock_total(clock: *mut Handle) -> Found;
     pub fn lru_clock_pinned_charge(clock: *mut Handle) -> Found;
     pub fn lru_clock_capacity(clock: *mut Handle) -> Found;

@@ -5,6 +5,7 @@ use std::marker::PhantomData;
 use std::mem;
 use std::ptr::NonNull;
 use std::sync::{Condvar, Mutex, MutexGuard, OnceLock};
+use std::time::Duration;
 
 use super::Stats;
 use crate::error::{self, Refusal};
@@ -12,6 +13,7 @@ use crate::ffi::{self, Found, Handle};
 use crate::form::Words;
 use crate::hash::hash_of_words;
 use crate::leaving::{self, Leaving, Reason};
+use crate::makings::Loads;
 use crate::proved::{done, refusal, value_of, word_of};
 use crate::unsharded::unpoisoned;
 use crate::waiting::WaitList;
@@ -81,8 +83,16 @@ impl<'a, V> Left<'a, V> {
     fn take(&mut self, left: ffi::Left) {
         // SAFETY: the word is the address of a box that `add` or `ready` stored. The library tells
         // each word once, and only when its entry has no pin.
-        let node = unsafe { Box::from_raw(value_of(left.value).as_ptr()) };
+        let node: Box<Node<V>> = unsafe { Box::from_raw(value_of(left.value).as_ptr()) };
         self.nodes.push(node);
+    }
+
+    /// The same, of an entry that left for this reason.
+    fn take_for(&mut self, left: ffi::Left, reason: Reason) {
+        self.take(left);
+        if let Some(node) = &self.nodes.0 {
+            node.detach(reason);
+        }
     }
 }
 
@@ -226,11 +236,11 @@ impl<V> Shard<V> {
         let mut state = State {
             clock: Handle::CLOSED,
             reader: Handle::CLOSED,
+            is_strict: false,
             makings: Vec::new(),
             detached: Vec::new(),
             inserted: 0,
-            made: 0,
-            failed: 0,
+            loads: Loads::default(),
             nodes: PhantomData,
         };
         // SAFETY: the clock is closed, and there is no other copy of it.
@@ -280,15 +290,16 @@ pub(super) struct State<V> {
     clock: Handle,
     /// A reader for whoever has the lock.
     reader: Handle,
+    /// Whether no value is stored that takes the total above the capacity.
+    is_strict: bool,
     makings: Vec<Making>,
     /// The tickets of those whose keys were invalidated or got another value meanwhile, and why. It
     /// has room for those of `makings` too.
     detached: Vec<(u64, Reason)>,
     /// How many values were stored that were not made by those who asked for them.
     inserted: u64,
-    /// How many makings have ended, by whether the value was stored.
-    made: u64,
-    failed: u64,
+    /// The makings that have ended, by whether the value was stored.
+    loads: Loads,
     nodes: PhantomData<Box<Node<V>>>,
 }
 
@@ -334,10 +345,29 @@ impl<V> State<V> {
         }
     }
 
-    /// Finds the value of a key, or begins to make it.
-    pub(super) fn begin(&mut self, route: Route, charge: u64) -> Result<Turn<V>, Refusal> {
+    /// Finds the value of a key, or begins to make it. If the limit is strict, makes room for a new
+    /// value, and begins to make none that has no room.
+    pub(super) fn begin(
+        &mut self,
+        route: Route,
+        charge: u64,
+        left: &mut Left<'_, V>,
+    ) -> Result<Turn<V>, Refusal> {
         error::room(self.makings.try_reserve(1))?;
         error::room(self.detached.try_reserve(self.makings.len() + 1))?;
+        if self.is_strict && !self.has_room(charge, 0) {
+            if let Some(pin) = self.find(route)? {
+                return Ok(Turn::Hit(pin));
+            }
+            // A value that is being made is waited for.
+            let mut makings = self.makings.iter();
+            if !makings.any(|making| making.route.key == route.key) {
+                self.make_room(charge, left);
+                if !self.has_room(charge, 0) {
+                    return Err(Refusal::Full);
+                }
+            }
+        }
         let [first, second] = route.key;
         // SAFETY: this state has the only copy of the handle.
         let found =
@@ -371,13 +401,14 @@ impl<V> State<V> {
         Some(&mut making.wait_list)
     }
 
-    /// Stores the value that was made with a ticket, and pins it. If it is refused, the making has
-    /// failed. Also returns the making, if it had not ended before.
+    /// Stores the value that was made in this time with a ticket, and pins it. If it is refused, the
+    /// making has failed. Also returns the making, if it had not ended before.
     pub(super) fn ready(
         &mut self,
         route: Route,
         ticket: u64,
         node: Box<Node<V>>,
+        time: Duration,
         left: &mut Left<'_, V>,
     ) -> (Stored<V>, Option<Making>) {
         self.make_room(node.charge, left);
@@ -388,24 +419,38 @@ impl<V> State<V> {
                 None
             }
         };
+        let is_strict = self.is_strict;
         let stored = self.store(node, |clock, charge, word| {
             // SAFETY: this state has the only copy of the handle.
-            unsafe { ffi::lru_clock_ready(clock, ticket, route.hash, charge, word, false) }
+            unsafe { ffi::lru_clock_ready(clock, ticket, route.hash, charge, word, is_strict) }
         });
-        match stored {
-            Ok(_) => self.made += 1,
-            Err(_) => self.failed += 1,
+        match &stored {
+            Ok(_) => self.loads.made += 1,
+            Err((refusal, _)) => {
+                self.loads.failed += 1;
+                if *refusal == Refusal::Full {
+                    // The making would go on.
+                    self.give_up(ticket);
+                }
+            }
         }
+        self.loads.time += time;
         (stored, ended)
     }
 
-    /// Ends a making that failed. Returns it, if it had not ended before.
-    pub(super) fn fail(&mut self, ticket: u64) -> Option<Making> {
+    /// Ends a making that failed after this time. Returns it, if it had not ended before.
+    pub(super) fn fail(&mut self, ticket: u64, time: Duration) -> Option<Making> {
+        self.give_up(ticket);
+        self.loads.failed += 1;
+        self.loads.time += time;
+        self.end(ticket).ok()
+    }
+
+    /// Tells the library that a making has failed.
+    fn give_up(&mut self, ticket: u64) {
         // SAFETY: this state has the only copy of the handle.
         let code = unsafe { ffi::lru_clock_fail(&mut self.clock, ticket) };
         debug_assert_eq!(code, ffi::DONE);
-        self.failed += 1;
-        self.end(ticket).ok()
     }
 
     /// Invalidates a key, and stores a value for it, which is pinned. Also returns the making that
@@ -416,18 +461,59 @@ impl<V> State<V> {
         node: Box<Node<V>>,
         left: &mut Left<'_, V>,
     ) -> (Stored<V>, Option<Making>) {
+        if self.is_strict && !self.make_way(route, node.charge, left) {
+            return (Err((Refusal::Full, node)), None);
+        }
         if self.total().checked_add(node.charge).is_none() {
             return (Err((Refusal::Overflow, node)), None);
         }
         let ended = self.erase(route, Reason::Replaced, left);
         self.make_room(node.charge, left);
         let [first, second] = route.key;
+        let is_strict = self.is_strict;
         let stored = self.store(node, |clock, charge, word| {
             // SAFETY: this state has the only copy of the handle.
-            unsafe { ffi::lru_clock_add(clock, route.hash, first, second, charge, word, false) }
+            unsafe { ffi::lru_clock_add(clock, route.hash, first, second, charge, word, is_strict) }
         });
         self.inserted += u64::from(stored.is_ok());
         (stored, ended)
+    }
+
+    /// Makes room under a strict limit for a value that takes the place of the key's. Returns whether
+    /// there is any. The key's value is room too unless it has a handle. It leaves last, and stays
+    /// if even without it there is too little.
+    fn make_way(&mut self, route: Route, charge: u64, left: &mut Left<'_, V>) -> bool {
+        if self.has_room(charge, 0) {
+            return true;
+        }
+        if charge > self.capacity() {
+            return false;
+        }
+        if let Ok(Some(pin)) = self.find(route) {
+            // SAFETY: the entry is pinned, so its node stays.
+            let own = unsafe { pin.node.as_ref() }.charge;
+            self.make_room(charge.saturating_sub(own), left);
+            if !self.has_room(charge, own) {
+                self.unpin(pin.place, left);
+                return false;
+            }
+            if self.unpin_and_evict(pin.place, Reason::Replaced, left) {
+                return true;
+            }
+        }
+        self.make_room(charge, left);
+        self.has_room(charge, 0)
+    }
+
+    /// Gives a pin back, and takes the entry out if it was the last, which is returned.
+    fn unpin_and_evict(&mut self, place: u32, reason: Reason, left: &mut Left<'_, V>) -> bool {
+        let mut gone = ffi::Left::default();
+        // SAFETY: this state has the only copy of the handle.
+        let code = unsafe { ffi::lru_clock_release_and_evict(&mut self.clock, place, &mut gone) };
+        if code == ffi::GONE {
+            left.take_for(gone, reason);
+        }
+        code == ffi::GONE
     }
 
     /// Stores a node by a function of the library, which is given its charge and its word.
@@ -498,8 +584,18 @@ impl<V> State<V> {
         making.or(self.detached.last().map(|detached| detached.0))
     }
 
-    /// Evicts entries until a charge has room, or all that are left are pinned.
+    /// Whether the capacity has room for another charge, once one of the charges has gone.
+    fn has_room(&mut self, charge: u64, gone: u64) -> bool {
+        let room = self.capacity().checked_sub(charge);
+        room.is_some_and(|room| self.total() - gone <= room)
+    }
+
+    /// Evicts entries until a charge has room, or all that are left are pinned. Evicts none for a
+    /// charge that a strict limit refuses in any case.
     pub(super) fn make_room(&mut self, charge: u64, left: &mut Left<'_, V>) {
+        if self.is_strict && charge > self.capacity() {
+            return;
+        }
         let mut gone = ffi::Left::default();
         // SAFETY: this state has the only copy of the handle.
         while unsafe { ffi::lru_clock_make_room(&mut self.clock, charge, &mut gone) } == ffi::GONE {
@@ -554,6 +650,20 @@ impl<V> State<V> {
         self.make_room(0, left);
     }
 
+    /// Makes room in memory for so many entries.
+    pub(super) fn reserve(&mut self, entries: usize) -> Result<(), Refusal> {
+        // SAFETY: this state has the only copy of the handle.
+        done(unsafe { ffi::lru_clock_reserve(&mut self.clock, entries) })
+    }
+
+    pub(super) fn set_strict_limit(&mut self, strict: bool) {
+        self.is_strict = strict;
+    }
+
+    pub(super) fn is_limit_strict(&self) -> bool {
+        self.is_strict
+    }
+
     /// The total of the charges of all entries.
     pub(super) fn total(&mut self) -> u64 {
         // SAFETY: this state has the only copy of the handle.
@@ -585,12 +695,13 @@ impl<V> State<V> {
     /// What the calls on the clock have done, and what it holds.
     pub(super) fn stats(&mut self) -> Stats {
         let entries = self.len();
-        let insertions = self.inserted + self.made;
+        let insertions = self.inserted + self.loads.made;
         Stats {
             insertions,
             evictions: insertions - entries,
-            loads: self.made,
-            load_failures: self.failed,
+            loads: self.loads.made,
+            load_failures: self.loads.failed,
+            load_time: self.loads.time,
             entries,
             charge: self.total().into(),
             capacity: self.capacity().into(),
@@ -619,7 +730,7 @@ impl<V> Drop for State<V> {
             }
             self.prune(&mut left);
             while let Some(ticket) = self.any_ticket() {
-                self.fail(ticket);
+                self.fail(ticket, Duration::ZERO);
             }
             // SAFETY: this state has the only copy of the handle.
             let code = unsafe { ffi::lru_clock_free(&mut self.clock) };
