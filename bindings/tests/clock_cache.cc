@@ -402,17 +402,18 @@ void a_strict_limit_has_no_room_beside_pinned_values() {
   CHECK(cache.is_limit_strict() && !Numbers(10).is_limit_strict());
   CHECK(Numbers(10, lru::Limit::kStrict).is_limit_strict());
   auto one = cache.get_or_init(1, 6, returns(1));
-  cache.get_or_init(2, 4, returns(2));
+  cache.get_or_init(2, 2, returns(2));
+  cache.insert(4, 2, 4);
   int calls = 0;
   const auto init = [&](std::uint64_t) { return calls++; };
   // What is above the capacity evicts nothing.
   CHECK(is_full([&] { cache.get_or_init(3, 11, init); }));
   CHECK(is_full([&] { cache.begin(3, UINT64_MAX); }));
   CHECK(is_full([&] { cache.insert(3, 11, 3); }) && is_full([&] { cache.insert(2, 11, 3); }));
-  CHECK(cache.len() == 2 && *cache.get(2) == 2);
+  CHECK(shown(cache) == "1=1*6 2=2*2 4=4*2 ");
   // Idle values leave before a value is refused. The old value has a handle, so it takes room.
   CHECK(is_full([&] { cache.insert(1, 5, 3); }));
-  CHECK(!cache.contains(2) && *one == 1 && cache.get(1).get() == one.get());
+  CHECK(shown(cache) == "1=1*6 " && *one == 1 && cache.get(1).get() == one.get());
   CHECK(is_full([&] { cache.get_or_init(3, 5, init); }) && is_full([&] { cache.begin(3, 5); }));
   CHECK(is_full([&] { cache.try_begin(3, 5); }) && is_full([&] { cache.insert(3, 5, 3); }));
   CHECK(calls == 0 && shown(cache) == "1=1*6 " && !cache.get(3));
@@ -494,6 +495,8 @@ void an_insert_has_the_room_of_the_old_value() {
   CHECK(*cache.insert(2, 1, 4) == 4 && shown(cache) == "1=3*5 2=4*1 ");
   CHECK(*cache.insert(2, 5, 5) == 5 && shown(cache) == "1=3*5 2=5*5 ");
   CHECK(*cache.insert(2, 3, 6) == 6 && shown(cache) == "1=3*5 2=6*3 ");
+  CHECK(*cache.insert(2, 7, 7) == 7 && shown(cache) == "2=7*7 ");
+  CHECK(*cache.insert(2, 3, 6) == 6 && *cache.insert(1, 5, 3) == 3);
   // With a handle it takes room, and other values leave for the new one, if that helps.
   auto held = cache.get(1);
   CHECK(*cache.insert(1, 5, 7) == 7 && shown(cache) == "1=7*5 " && cache.total_charge() == 10);

@@ -45,7 +45,8 @@ fn a_strict_limit_has_no_room_beside_pinned_values() -> Result<(), Refusal> {
     let cache = strict(10)?;
     assert!(cache.is_limit_strict());
     let one = cache.get_or_init(&1, 6, |_| 1)?;
-    cache.get_or_init(&2, 4, |_| 2)?;
+    cache.get_or_init(&2, 2, |_| 2)?;
+    cache.insert(&4, 2, 4)?;
     let full = Some(Refusal::Full);
     let is_full = |charge| {
         let try_init = cache.get_or_try_init(&3, charge, |_| Err("never")).err();
@@ -58,7 +59,7 @@ fn a_strict_limit_has_no_room_beside_pinned_values() -> Result<(), Refusal> {
     // What is above the capacity evicts nothing.
     assert_eq!((is_full(11), is_full(u64::MAX)), (full, full));
     assert_eq!(cache.insert(&2, 11, 3).err(), full);
-    assert_eq!(shown(&cache)?, [(1, 1, 6), (2, 2, 4)]);
+    assert_eq!(shown(&cache)?, [(1, 1, 6), (2, 2, 2), (4, 4, 2)]);
     // Idle values leave before a value is refused. The old value has a handle, so it takes room.
     assert_eq!(cache.insert(&1, 5, 3).err(), full);
     assert_eq!(shown(&cache)?, [(1, 1, 6)]);
@@ -167,6 +168,10 @@ fn an_insert_has_the_room_of_the_old_value() -> Result<(), Refusal> {
         cache.insert(&key, charge, value)?;
         assert_eq!(shown(&cache)?, expected);
     }
+    cache.insert(&2, 7, 7)?;
+    assert_eq!(shown(&cache)?, [(2, 7, 7)]);
+    cache.insert(&2, 3, 6)?;
+    cache.insert(&1, 5, 3)?;
     // With a handle it takes room, and other values leave for the new one, if that helps.
     let held = cache.get(&1)?;
     cache.insert(&1, 5, 7)?;
