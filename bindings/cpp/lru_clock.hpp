@@ -23,7 +23,7 @@
 //     how many handles a value has.
 //   - An `insert` for which there is no memory may leave the key without a value.
 //   - `stats` counts what is made, added and evicted, but no hits, misses and waits.
-//   - There is no listener, advice_evict or release_and_evict, and no hash of the program's own.
+//   - There is no advice_evict or release_and_evict, and no hash of the program's own.
 //
 // Of the clock of lru.h less is proved than of the other caches: THE CLOCK there says what. This
 // header adds the locks, the waiting and the values. It is ordinary C++, tested with
@@ -88,6 +88,7 @@ struct ClockNode {
   Value value;
   Words key = {};
   // The lock of the shard protects these.
+  Reason reason = Reason::kEvicted;  // why it leaves, now or later
   union {
     std::uint64_t charge = 0;  // 0 once its key no longer finds it
     ClockNode* next;           // once it has left the cache
@@ -263,6 +264,7 @@ class alignas(64) ClockCache {
   using Handle = ClockHandle<Value, Key>;
   using Maker = ClockMaker<Value, Key>;
   using Begun = ClockBegun<Value, Key>;
+  using Listener = typename detail::Notice<Value, Key>::Listener;
 
   // An empty cache, whose seed is random. `capacity` is that of all shards together. The number of
   // shards is that of shards_for, for charges of 1 unless the typical one is passed. Throws
@@ -278,25 +280,34 @@ class alignas(64) ClockCache {
   ClockCache(std::uint64_t capacity, Seed seed)
       : ClockCache(capacity, seed, shards_for(capacity, 1)) {}
   ClockCache(std::uint64_t capacity, Seed seed, std::size_t shards)
-      : ClockCache(capacity, seed, shards, Limit::kNotStrict) {}
+      : ClockCache(capacity, seed, shards, nullptr, Limit::kNotStrict) {}
 
   // The same, with random seeds, and with a limit that may be strict. It is that of each shard: a
   // value has no room if its own shard has none.
   ClockCache(std::uint64_t capacity, Limit limit)
       : ClockCache(capacity, shards_for(capacity, 1), limit) {}
   ClockCache(std::uint64_t capacity, std::size_t shards, Limit limit)
-      : ClockCache(capacity, Seed::random(), shards, limit) {}
+      : ClockCache(capacity, shards, nullptr, limit) {}
+
+  // The same with one listener for all shards, as for Cache. It may be null. It is told of a value
+  // before this and those that leave with the same call are deleted, and needs no memory.
+  ClockCache(std::uint64_t capacity, std::size_t shards, Listener listener,
+             Limit limit = Limit::kNotStrict)
+      : ClockCache(capacity, Seed::random(), shards, std::move(listener), limit) {}
 
   // Deletes all values. There must be no handle and no maker left, as it would dangle; this is
-  // asserted. The destructors of the values must not call this cache: a call that finds or adds
-  // values throws std::logic_error, which ends the program if it leaves a destructor.
+  // asserted. The destructors of the values and the listener must not call this cache: a call that
+  // finds or adds values throws std::logic_error, which ends the program if it leaves a destructor.
   ~ClockCache() {
-    Evicted evicted;
+    Evicted evicted(this);
     for (Shard& shard : shards_) {
       shard.prune(&evicted);
       [[maybe_unused]] const lru_code code = lru_clock_free(&shard.clock);
       assert(code == LRU_DONE && shard.makers == nullptr &&
              "lru: a handle or a maker outlives its cache");
+    }
+    for (Node* node = evicted.first(); node != nullptr; node = node->next) {
+      node->reason = Reason::kCleared;
     }
   }
 
@@ -392,13 +403,13 @@ class alignas(64) ClockCache {
     auto node = std::make_unique<Node>(std::in_place, std::forward<V>(value));
     const Hashed hashed = hash(key);
     Shard& shard = shards_[hashed.shard];
-    Evicted evicted;
+    Evicted evicted(this);
     Lock lock(shard.mutex);
     if (shard.is_strict && !make_way(&shard, hashed, charge, &evicted)) {
       detail::throw_refusal(LRU_FULL);
     }
     if (charge > UINT64_MAX - shard.total()) detail::throw_refusal(LRU_OVERFLOW);
-    const bool is_awaited = detach(&shard, hashed, &evicted);
+    const bool is_awaited = detach(&shard, hashed, Reason::kReplaced, &evicted);
     shard.make_room(charge, &evicted);
     node->key = hashed.words;
     node->charge = charge;
@@ -421,9 +432,9 @@ class alignas(64) ClockCache {
   void invalidate(Argument key) {
     const Hashed hashed = hash(key);
     Shard& shard = shards_[hashed.shard];
-    Evicted evicted;
+    Evicted evicted(this);
     Lock lock(shard.mutex);
-    const bool is_awaited = detach(&shard, hashed, &evicted);
+    const bool is_awaited = detach(&shard, hashed, Reason::kInvalidated, &evicted);
     lock.unlock();
     if (is_awaited) shard.ended.notify_all();
   }
@@ -431,7 +442,7 @@ class alignas(64) ClockCache {
   // Evicts every idle value, one shard after another.
   void prune() {
     for (Shard& shard : shards_) {
-      Evicted evicted;
+      Evicted evicted(this);
       const Lock lock(shard.mutex);
       shard.prune(&evicted);
     }
@@ -456,7 +467,7 @@ class alignas(64) ClockCache {
   std::uint64_t erase_if(Predicate&& predicate) {
     std::uint64_t erased = 0;
     for (Shard& shard : shards_) {
-      Evicted evicted;
+      Evicted evicted(this);
       const Lock lock(shard.mutex);
       std::vector<Hashed> chosen;
       visit(&shard, &evicted, [&](Node& node) {
@@ -466,7 +477,7 @@ class alignas(64) ClockCache {
         }
       });
       // None of these keys is being made, as it has a value.
-      for (const Hashed& key : chosen) detach(&shard, key, &evicted);
+      for (const Hashed& key : chosen) detach(&shard, key, Reason::kInvalidated, &evicted);
       erased += chosen.size();
     }
     return erased;
@@ -482,7 +493,7 @@ class alignas(64) ClockCache {
   template <class Visit>
   void for_each(Visit&& visit) const {
     for (Shard& shard : shards_) {
-      Evicted evicted;
+      Evicted evicted(this);
       const Lock lock(shard.mutex);
       this->visit(&shard, &evicted, [&](Node& node) {
         std::invoke(visit, Shown::of(node.key), node.value, std::uint64_t{node.charge});
@@ -522,7 +533,7 @@ class alignas(64) ClockCache {
   // it are evicted at once.
   void set_capacity(std::uint64_t capacity) {
     for (Shard& shard : shards_) {
-      Evicted evicted;
+      Evicted evicted(this);
       const Lock lock(shard.mutex);
       shard.set_capacity(detail::share(capacity, shards_.count()), &evicted);
     }
@@ -595,8 +606,21 @@ class alignas(64) ClockCache {
   using Hashed = detail::ClockKey;
   using Node = detail::ClockNode<Value>;
   // Always declared before the lock is taken: it is destroyed, and the values with it, after the
-  // lock is released.
-  using Evicted = detail::Evicted<Node>;
+  // lock is released. The listener is told of them first.
+  class Evicted : public detail::Evicted<Node> {
+   public:
+    explicit Evicted(const ClockCache* cache) noexcept : cache_(*cache) {}
+    ~Evicted() { clear(); }
+
+    // Deletes them now.
+    void clear() noexcept {
+      if (cache_.listener_) cache_.tell(this->first());
+      detail::Evicted<Node>::clear();
+    }
+
+   private:
+    const ClockCache& cache_;
+  };
   using Lock = std::unique_lock<detail::Mutex>;
 
   struct Shard : detail::ClockShard<Node> {
@@ -607,8 +631,8 @@ class alignas(64) ClockCache {
   };
   using Shards = detail::ClockShards<Shard>;
 
-  ClockCache(std::uint64_t capacity, Seed seed, std::size_t shards, Limit limit)
-      : shards_(checked(shards), seed) {
+  ClockCache(std::uint64_t capacity, Seed seed, std::size_t shards, Listener listener, Limit limit)
+      : shards_(checked(shards), seed), listener_(std::move(listener)) {
     if (!shards_.open(capacity)) throw OutOfMemory();
     set_strict_limit(limit == Limit::kStrict);
   }
@@ -661,6 +685,17 @@ class alignas(64) ClockCache {
     if (code != LRU_DONE && code != LRU_ABOVE) release_locked(shard, place, reader, code);
   }
 
+  // Tells the listener of the nodes of a list. What it throws is dropped: the values leave whatever
+  // it does.
+  [[gnu::cold, gnu::noinline]] void tell(const Node* node) const noexcept {
+    for (; node != nullptr; node = node->next) {
+      try {
+        listener_(Shown::of(node->key), node->value, node->reason);
+      } catch (...) {
+      }
+    }
+  }
+
   static void add_to(std::uint64_t* sum, std::uint64_t more) noexcept {
     *sum = detail::saturating_add(*sum, more);
   }
@@ -671,7 +706,7 @@ class alignas(64) ClockCache {
                                                    lru_reader* reader,
                                                    lru_code code) const noexcept {
     Shard& shard = shards_[number];
-    Evicted evicted;
+    Evicted evicted(this);
     const Lock lock(shard.mutex);
     shard.end_unpin(place, reader, code, &evicted);
   }
@@ -694,7 +729,7 @@ class alignas(64) ClockCache {
   [[gnu::noinline]] lru_found begin(const Hashed& key, std::uint64_t charge, lru_reader* reader,
                                     bool waits, Maker* maker) {
     Shard& shard = shards_[key.shard];
-    Evicted evicted;
+    Evicted evicted(this);
     Lock lock(shard.mutex);
     shard.open_reader(reader);
     lru_found found = ask(&shard, key, charge, &evicted);
@@ -725,12 +760,13 @@ class alignas(64) ClockCache {
     const Hashed key = maker->key_;
     const std::uint64_t time = detail::nanoseconds_since(maker->start_);
     Shard& shard = shards_[key.shard];
-    Evicted evicted;
+    Evicted evicted(this);
     Lock lock(shard.mutex);
     shard.load_nanoseconds += time;
     shard.make_room(maker->charge_, &evicted);
     made->key = key.words;
     made->charge = maker->is_detached_ ? 0 : maker->charge_;
+    if (maker->is_detached_) made->reason = Reason::kInvalidated;
     const lru_found found = lru_clock_ready(&shard.clock, maker->ticket_, key.hash, maker->charge_,
                                             detail::word_of(made.get()), shard.is_strict);
     // The making of a value for which there is no room would go on.
@@ -769,12 +805,14 @@ class alignas(64) ClockCache {
   }
 
   void clear(Shard* shard) {
-    Evicted evicted;
+    Evicted evicted(this);
     bool is_awaited = false;
     Lock lock(shard->mutex);
-    visit(shard, &evicted, [&](Node& node) { detach(shard, shards_.hash(node.key), &evicted); });
+    visit(shard, &evicted,
+          [&](Node& node) { detach(shard, shards_.hash(node.key), Reason::kCleared, &evicted); });
     for (const Maker* maker = shard->makers; maker != nullptr; maker = maker->next_) {
-      if (!maker->is_detached_) is_awaited |= detach(shard, maker->key_, &evicted);
+      if (maker->is_detached_) continue;
+      is_awaited |= detach(shard, maker->key_, Reason::kCleared, &evicted);
     }
     lock.unlock();
     if (is_awaited) shard->ended.notify_all();
@@ -806,14 +844,17 @@ class alignas(64) ClockCache {
     if (charge > shard->capacity()) return false;
     const lru_found old = shard->find(key);
     if (old.code == LRU_HIT) {
-      // It is pinned meanwhile.
-      const std::uint64_t own = node_of(old)->charge;
+      // It is pinned meanwhile, and stays until the lock is released if others have pinned it.
+      Node* const node = node_of(old);
+      const std::uint64_t own = node->charge;
       shard->make_room(charge - std::min(charge, own), evicted);
       if (!shard->has_room(charge, own)) {
         shard->unpin(old.place, evicted);
         return false;
       }
+      node->reason = Reason::kReplaced;
       if (shard->unpin_and_evict(old.place, evicted)) return true;
+      node->reason = Reason::kEvicted;
     }
     shard->make_room(charge, evicted);
     return shard->has_room(charge);
@@ -821,10 +862,11 @@ class alignas(64) ClockCache {
 
   // Takes a key's value away, and the making of one. Returns whether callers wait for that. The
   // value is pinned meanwhile, which tells its node. Throws before anything has changed.
-  static bool detach(Shard* shard, const Hashed& key, Evicted* evicted) {
+  static bool detach(Shard* shard, const Hashed& key, Reason reason, Evicted* evicted) {
     const lru_found found = shard->find(key);
     if (found.code == LRU_HIT) {
       node_of(found)->charge = 0;
+      node_of(found)->reason = reason;
       shard->detach(key, found.place, evicted);
     } else if (found.code == LRU_MISSED) {
       shard->erase(key, evicted);
@@ -881,6 +923,7 @@ class alignas(64) ClockCache {
   }
 
   Shards shards_;
+  const Listener listener_;
 };
 
 }  // namespace lru

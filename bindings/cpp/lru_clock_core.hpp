@@ -197,8 +197,8 @@ struct alignas(64) ClockShard {
 
   // Pins a new value of a key, or the one that it has: LRU_HIT.
   lru_found add(const ClockKey& key, std::uint64_t charge, Node* node) noexcept {
-    return lru_clock_add(&clock, key.hash, key.words.first, key.words.second, charge,
-                         word_of(node), is_strict);
+    return lru_clock_add(&clock, key.hash, key.words.first, key.words.second, charge, word_of(node),
+                         is_strict);
   }
 
   // Whether the capacity has room for another charge, once one of the charges has gone.

@@ -574,7 +574,7 @@ void stats_tell_what_was_made_added_and_evicted() {
   for (std::uint64_t n = 0; n < 100; n++) cache.insert(n, 2, 1);
   for (std::uint64_t n = 50; n < 150; n++) cache.get_or_init(n, 3, returns(1));
   cache.insert(7, 1, 1);
-  for (std::uint64_t n = 200; n < 210; n++) { const auto dropped = cache.begin(n, 1); }
+  for (std::uint64_t n = 200; n < 210; n++) cache.begin(n, 1).maker.fail();
   lru::ClockStats stats = cache.stats();
   CHECK(stats.insertions == 151 && stats.evictions == 1 && stats.entries == 150);
   CHECK(stats.charge == 349 && stats.charge == cache.total_charge() && stats.capacity == 1600);
@@ -620,8 +620,12 @@ void the_time_of_loads_is_measured() {
     slowly(3);
   });
   CHECK(given_up.first >= milliseconds(20) && cache.stats().load_failures == 1);
-  CHECK(took([&] { cache.insert(2, 1, 2), cache.get(2), cache.get_or_init(2, 1, slowly); })
-            .first.count() == 0);
+  const auto none = took([&] {
+    cache.insert(2, 1, 2);
+    cache.get(2);
+    cache.get_or_init(2, 1, slowly);
+  });
+  CHECK(none.first.count() == 0);
   cache.set_load_times(false);
   CHECK(make(4).first.count() == 0 && cache.stats().loads == 3);
 }
@@ -718,6 +722,161 @@ void a_destructor_may_call_the_cache() {
   CHECK(deleted == before + 1);
   cache.clear();
   CHECK(cache.len() == 0 && deleted == 5);
+}
+
+// What a listener has been told, as "key=value reason", one after another.
+struct Told {
+  void operator()(std::uint64_t key, int value, lru::Reason reason) {
+    const char* const names[] = {"evicted", "invalidated", "replaced", "cleared"};
+    text += text.empty() ? "" : ", ";
+    text += std::to_string(key) + "=" + std::to_string(value) + " ";
+    text += names[static_cast<int>(reason)];
+  }
+  // And forgets it.
+  std::string take() { return std::exchange(text, ""); }
+
+  std::string text;
+};
+
+void a_listener_is_told_what_leaves() {
+  Told told;
+  {
+    Numbers cache(3, kOne, std::ref(told));
+    const auto init = [&](std::uint64_t key, int value) {
+      return cache.get_or_init(key, 1, returns(value));
+    };
+    for (const std::uint64_t n : {1u, 1u}) init(n, 1);
+    CHECK(told.take().empty() && !cache.is_limit_strict());
+    cache.insert(2, 3, 2);
+    CHECK(told.take() == "1=1 evicted");
+    cache.set_capacity(2);
+    cache.set_capacity(3);
+    CHECK(told.take() == "2=2 evicted");
+    init(3, 3);
+    cache.prune();
+    CHECK(told.take() == "3=3 evicted");
+
+    // By a call, whether the value is idle or has a handle.
+    init(1, 1);
+    auto held = init(2, 2);
+    cache.invalidate(9);
+    cache.invalidate(1);
+    cache.invalidate(2);
+    CHECK(told.take() == "1=1 invalidated");
+    cache.insert(2, 1, 3);
+    held.reset();
+    CHECK(told.take() == "2=2 invalidated");
+    held = init(3, 4);
+    CHECK(cache.erase_if([](auto&&...) { return true; }) == 2);
+    CHECK(told.take() == "2=3 invalidated");
+    held.reset();
+    CHECK(told.take() == "3=4 invalidated");
+    cache.insert(1, 1, 1);
+    held = cache.insert(1, 1, 2);
+    CHECK(told.take() == "1=1 replaced");
+    auto again = held.clone();
+    cache.insert(1, 1, 3);
+    held.reset();
+    cache.invalidate(1);
+    CHECK(told.take() == "1=3 invalidated");
+    again.reset();
+    CHECK(told.take() == "1=2 replaced");
+    held = cache.insert(1, 1, 4);
+    cache.insert(2, 1, 5);
+    cache.clear();
+    CHECK(told.take() == "2=5 cleared");
+    held.reset();
+    CHECK(told.take() == "1=4 cleared");
+
+    // A value whose key was taken away while it was made.
+    for (int call = 0; call < 3; call++) {
+      auto [handle, maker] = cache.begin(1, 1);
+      if (call == 0) cache.invalidate(1);
+      if (call == 1) cache.clear();
+      if (call == 2) cache.insert(1, 1, 2);
+      auto moved = std::move(maker);
+      handle = moved.ready(1);
+      handle.reset();
+      CHECK(told.take() == "1=1 invalidated");
+    }
+    cache.clear();
+    CHECK(told.take() == "1=2 cleared");
+
+    // What the cache did not keep is not told.
+    CHECK(throws<lru::ZeroCharge>([&] { cache.insert(1, 0, 1); }));
+    { const auto begun = cache.begin(1, 1); }
+    held = cache.insert(1, 2, 1);
+    CHECK(throws<lru::Overflow>([&] { cache.insert(2, UINT64_MAX, 1); }) && told.take().empty());
+    held.reset();
+    cache.insert(2, 1, 2);
+  }
+  CHECK(told.take() == "1=1 cleared, 2=2 cleared");
+
+  // With a strict limit: the old value is replaced if it leaves for the new one, and not if that is
+  // refused.
+  {
+    Numbers cache(3, kOne, std::ref(told), lru::Limit::kStrict);
+    CHECK(cache.is_limit_strict());
+    cache.insert(1, 2, 1);
+    cache.insert(1, 3, 2);
+    CHECK(told.take() == "1=1 replaced");
+    auto held = cache.get(1);
+    CHECK(is_full([&] { cache.insert(1, 1, 3); }));
+    held.reset();
+    cache.begin(2, 1).maker.fail();
+    CHECK(told.take() == "1=2 evicted");
+    held = cache.insert(3, 1, 3);
+    cache.insert(4, 1, 4);
+    CHECK(is_full([&] { cache.insert(5, 3, 5); }) && told.take() == "4=4 evicted");
+  }
+  told.take();
+
+  // All shards tell one function. Keys are shown as for_each shows them.
+  std::string keys;
+  const auto adds = [&](int key, const int&, lru::Reason) { keys += std::to_string(key); };
+  lru::ClockCache<int, int> shards(400, std::size_t{16}, adds);
+  for (const int n : {-1, -2, -3, -4}) shards.insert(n, 1, n);
+  for (const int n : {-3, -1, -4, -2}) shards.invalidate(n);
+  CHECK(keys == "-3-1-4-2");
+  Numbers untold(10, kOne, nullptr);
+  untold.insert(1, 1, 1);
+  untold.clear();
+  CHECK(untold.len() == 0);
+}
+
+// It is called before the value is deleted, and may take long and call the cache. What it throws is
+// dropped.
+void a_listener_runs_without_the_lock() {
+  Objects* calls = nullptr;
+  std::vector<std::uint64_t> seen;
+  {
+    const auto listener = [&](std::uint64_t key, const Once& once, lru::Reason) {
+      if (once.key != key || !once.there) wrong++;
+      const auto finds = [&] { return calls->contains(100) || calls->len() > 2; };
+      if (calls != nullptr && std::async(std::launch::async, finds).get()) wrong++;
+      seen.push_back(key);
+      throw Failed();
+    };
+    Objects cache(2, kOne, listener, lru::Limit::kStrict);
+    calls = &cache;
+    cache.insert(1, 2, std::uint64_t{1});
+    cache.get_or_init(2, 1, makes(2));
+    cache.insert(2, 2, std::uint64_t{2});
+    auto held = cache.get(2);
+    cache.invalidate(2);
+    held.reset();
+    for (std::uint64_t n = 3; n <= 6; n++) cache.insert(n, 2, n);
+    cache.begin(7, 1);
+    cache.insert(8, 1, std::uint64_t{8});
+    cache.prune();
+    cache.insert(9, 1, std::uint64_t{9});
+    cache.set_capacity(0);
+    cache.set_capacity(2);
+    CHECK((seen == std::vector<std::uint64_t>{1, 2, 2, 3, 4, 5, 6, 8, 9}) && alive == 0);
+    cache.insert(10, 1, std::uint64_t{10});
+    calls = nullptr;
+  }
+  CHECK(seen.size() == 10 && alive == 0 && wrong == 0);
 }
 
 // ------------------------------------------------------------------------------ how threads wait
@@ -1076,14 +1235,18 @@ void a_handle_that_outlives_its_cache_is_asserted_against() {
 
 void a_destructor_that_calls_a_cache_that_is_destroyed_is_told_the_rule() {
   using Cache = lru::ClockCache<Caller, int>;
-  const auto names = [](auto call) {
+  const Cache::Listener listener = [](auto&&...) {};
+  const auto names_with = [](auto call, const Cache::Listener& told) {
     const std::string words = last_words([&] {
-      const auto cache = std::make_unique<Cache>(100);
+      const auto cache = std::make_unique<Cache>(100, kOne, told);
       cache->begin(1, 1).maker.ready([&] { call(*cache); });
       cache->~Cache();
       _exit(1);
     });
     return has(words, "lru: the destructor of a value calls the cache that is destroyed");
+  };
+  const auto names = [&](auto call) {
+    return names_with(call, nullptr) && names_with(call, listener);
   };
   CHECK(names([](Cache& cache) { cache.get(2); }));
   CHECK(names([](Cache& cache) { cache.begin(2, 1); }));
@@ -1122,6 +1285,8 @@ int main() {
   keys_are_of_any_type_that_is_written_as_words();
   values_may_be_neither_movable_nor_copyable();
   a_destructor_may_call_the_cache();
+  a_listener_is_told_what_leaves();
+  a_listener_runs_without_the_lock();
   others_wait_for_one_making();
   one_that_waits_makes_what_another_failed_to();
   who_waits_for_a_key_that_is_taken_away_goes_on();
@@ -1138,6 +1303,6 @@ int main() {
   a_handle_that_outlives_its_cache_is_asserted_against();
   a_destructor_that_calls_a_cache_that_is_destroyed_is_told_the_rule();
   CHECK(requests > 100);
-  std::printf("lru_clock.hpp: 41 tests, %d checks failed\n", failed_checks);
+  std::printf("lru_clock.hpp: 43 tests, %d checks failed\n", failed_checks);
   return failed_checks == 0 ? 0 : 1;
 }

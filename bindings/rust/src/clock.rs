@@ -366,8 +366,8 @@ impl<K: WordsKey + ?Sized, V> Cache<K, V> {
     ///
     /// [`Refusal::ZeroCharge`] if `init` returns a charge of 0: its value is dropped, and if others
     /// are waiting, one of them makes the value. [`Refusal::Overflow`], [`Refusal::Memory`] and
-    /// [`Refusal::Full`] as [`get_or_init`](Self::get_or_init); before `init` runs, [`Refusal::Full`]
-    /// only if there is no room for a charge of 1.
+    /// [`Refusal::Full`] as [`get_or_init`](Self::get_or_init), but before `init` runs
+    /// [`Refusal::Full`] only if there is no room for a charge of 1.
     ///
     /// # Examples
     ///
@@ -1004,8 +1004,8 @@ impl<K: WordsKey + ?Sized, V> Cache<K, V> {
     ///
     /// # Errors
     ///
-    /// [`Refusal::Memory`] if there is no memory for them. [`Refusal::Overflow`] if a share is above
-    /// 4,294,966,784. The shards before the one that refused have room then.
+    /// [`Refusal::Memory`] if there is no memory for them. [`Refusal::Overflow`] if a share is
+    /// above 4,294,966,784. The shards before the one that refused have room then.
     pub fn reserve(&self, entries: usize) -> Result<(), Refusal> {
         let share = entries.div_ceil(self.shards.len());
         let mut shards = self.shards.iter();

@@ -401,8 +401,8 @@ impl<V> State<V> {
         Some(&mut making.wait_list)
     }
 
-    /// Stores the value that was made in this time with a ticket, and pins it. If it is refused, the
-    /// making has failed. Also returns the making, if it had not ended before.
+    /// Stores the value that was made with a ticket, in this time, and pins it. If it is refused,
+    /// the making has failed. Also returns the making, if it had not ended before.
     pub(super) fn ready(
         &mut self,
         route: Route,
@@ -479,9 +479,9 @@ impl<V> State<V> {
         (stored, ended)
     }
 
-    /// Makes room under a strict limit for a value that takes the place of the key's. Returns whether
-    /// there is any. The key's value is room too unless it has a handle. It leaves last, and stays
-    /// if even without it there is too little.
+    /// Makes room under a strict limit for a value that takes the place of the key's. Returns
+    /// whether there is any. The key's value is room too unless it has a handle. It leaves last,
+    /// and stays if even without it there is too little.
     fn make_way(&mut self, route: Route, charge: u64, left: &mut Left<'_, V>) -> bool {
         if self.has_room(charge, 0) {
             return true;
