@@ -351,12 +351,12 @@ class alignas(64) ClockCache {
   // must be above 0, even if the key has a value. If the value exists already or is made by another
   // caller, its charge does not change.
   //
-  // Throws ZeroCharge, Overflow and OutOfMemory before `init` runs, and nothing changes. So does
+  // Throws ZeroCharge, Overflow and OutOfMemory before `init` runs, and no value is added. So does
   // Full, if the limit is strict, the key has no value and none is being made for it, and there is
-  // no room for one; idle values have been evicted then, unless the charge is above the capacity of
-  // the shard. If there is no memory for the value that was made, or its charge is too much by
-  // then, std::bad_alloc, Overflow or Full is thrown as if by `init`; other values may have been
-  // evicted for it.
+  // no room for one. All idle values of the shard have been evicted then, unless the charge alone
+  // is above its capacity. If there is no memory for the value that was made, or its charge is too
+  // much by then, std::bad_alloc, Overflow or Full is thrown as if by `init`; other values may have
+  // been evicted for it.
   template <class Init>
   Handle get_or_init(Argument key, std::uint64_t charge, Init&& init) {
     static_assert(std::is_invocable_v<Init, const Key&>,
