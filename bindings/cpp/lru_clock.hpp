@@ -624,10 +624,10 @@ class alignas(64) ClockCache {
   using Lock = std::unique_lock<detail::Mutex>;
 
   struct Shard : detail::ClockShard<Node> {
-    Maker* makers = nullptr;        // of the values that are being made
-    std::condition_variable ended;  // notified when a maker that others wait for has ended
-    std::uint64_t load_nanoseconds = 0;
     bool times_loads = false;
+    Maker* makers = nullptr;  // of the values that are being made
+    std::uint64_t load_nanoseconds = 0;
+    std::condition_variable ended;  // notified when a maker that others wait for has ended
   };
   using Shards = detail::ClockShards<Shard>;
 
