@@ -15,7 +15,7 @@ use std::sync::atomic::{AtomicU64, Ordering};
 use std::thread;
 use std::thread::Threads;
 
-const ROUNDS: u64 = 500;
+const ROUNDS: u64 = 150;
 
 // The numbers of callers and of failures of the rounds.
 const CASES: [(u64, u64); 4] = [(4, 0), (8, 0), (4, 2), (8, 2)];
