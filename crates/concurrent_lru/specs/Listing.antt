@@ -65,10 +65,6 @@ module _ {K V : Type 0} where
   abbrev pub HoldsSlot : Slots K V → ℕ → ℕ → Type 0
   HoldsSlot s k slot = (e : Bucket (At (Node K V))) × (listing_at s slot ≡ Some e) × Holds s.by_hash k e
 
-  -- the node in the slot has another hash, or is detached
-  abbrev pub LacksSlot : Slots K V → ℕ → ℕ → Type 0
-  LacksSlot s hash slot = (c : NodeCell K V) → cell_at (cells_of s) slot ≡ Some c → (entry_of c.value).detached ≡ false → hash_of c.value ≢ hash
-
   -- the node n is in the slot
   abbrev pub IsNodeIn : Slots K V → ℕ → Node K V → Type 0
   IsNodeIn s slot n = (c : NodeCell K V) × (cell_at (cells_of s) slot ≡ Some c) × (n ≡ c.value)

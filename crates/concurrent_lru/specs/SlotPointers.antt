@@ -1,6 +1,5 @@
 -- How the slab of pointers and the memory that they lead to agree.
 use Rattle.std.specs.Prelude.{◌≡◌, ◌≢◌, ℕ, Option, Some, None, IsSome}
-use Rattle.std.specs.Borrow.{Fml, RattleType, MutBor, Lends}
 use Rattle.slab.specs.Slab.{get}
 use denote.RawPtr.{Ptr}
 use Rattle.concurrent_lru.specs.Cells.{cell_at, ptr_in, slot_at, IsValueAt}
@@ -9,8 +8,6 @@ use Rattle.concurrent_lru.specs.Relinks.{NodeCell, NodeCells, place_of}
 use Rattle.concurrent_lru.specs.declared.node_table.memory.At.{At}
 use Rattle.concurrent_lru.specs.declared.node_table.Node.{Node}
 use Rattle.concurrent_lru.specs.declared.node_table.slots.Slots.{Slots}
-use Rattle.concurrent_lru.specs.contracts.node_table.Node as node
-use Rattle.concurrent_lru.specs.contracts.node_table.slots.Slots as slots
 
 -- the pointer in a slot
 abbrev pub ptr_of : {T : Type 0} → Option (At T) → Option Ptr
@@ -26,10 +23,7 @@ module _ {K V : Type 0} where
   abbrev pub HasNode : Slots K V → ℕ → Type 0
   HasNode s slot = IsSome (cell_at (cells_of s) slot)
 
-  -- the link leads to a node; it leads to the one in the slot
-  abbrev pub LeadsToNode : Slots K V → Ptr → Type 0
-  LeadsToNode s link = IsSome (slot_at (cells_of s) link)
-
+  -- the link leads to the node in the slot
   abbrev pub LeadsTo : Slots K V → Ptr → ℕ → Type 0
   LeadsTo s link slot = slot_at (cells_of s) link ≡ Some slot
 
@@ -56,6 +50,3 @@ module _ {K V : Type 0} where
   -- the slots with the node at p replaced by n
   abbrev pub with_node : Slots K V → Ptr → Node K V → Slots K V
   with_node s p n = record s { memory = with_value s.memory p n }
-
-abbrev pub lends_node : (K V : RattleType) → MutBor (Slots K.Denot V.Denot) → Ptr → MutBor (Node K.Denot V.Denot) → Fml
-lends_node K V s p r = Lends (slots.the_row K V) (node.the_row K V) s r (with_node s.now p)

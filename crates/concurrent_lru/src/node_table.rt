@@ -289,11 +289,12 @@ impl<K: Drop, V: Drop> Nodes<K, V> {
         let slots = &self.order.slots;
         let mut at = slots.by_hash.first(hash);
         'walk: while let Step::Item(cursor) = at {
-            let node = slots.candidate(cursor);
+            let link = slots.by_hash.item(cursor);
+            let node = slots.memory.get(link);
             if node.key == *key {
                 return Some(Found {
                     place: Place { slot: node.slot },
-                    link: slots.by_hash.item(cursor),
+                    link,
                     node,
                 });
             }
@@ -312,11 +313,12 @@ impl<K: Drop, V: Drop> Nodes<K, V> {
         let slots = &self.order.slots;
         let mut at = slots.by_hash.first(hash);
         'walk: while let Step::Item(cursor) = at {
-            let node = slots.candidate(cursor);
+            let link = slots.by_hash.item(cursor);
+            let node = slots.memory.get(link);
             if node.stamp == stamp {
                 return Some(Found {
                     place: Place { slot: node.slot },
-                    link: slots.by_hash.item(cursor),
+                    link,
                     node,
                 });
             }
@@ -389,7 +391,7 @@ impl<K: Drop, V: Drop> Nodes<K, V> {
     {
         // Only the contract uses it.
         let _ = place;
-        self.order.slots.follow_mut(link.ptr).set_pins(pins);
+        self.order.slots.memory.lend(link).set_pins(pins);
     }
 
     /// Marks a node as detached from its key. Takes no memory.
@@ -404,7 +406,8 @@ impl<K: Drop, V: Drop> Nodes<K, V> {
     {
         self.order.slots.unlist(place.slot);
         let pointer = self.order.slots.look(place.slot);
-        self.order.slots.follow_mut(pointer).set_detached();
+        let node = self.order.slots.memory.lend(At { ptr: pointer });
+        node.set_detached();
     }
 
     /// Sets the phase of a node. Takes no memory.
@@ -434,7 +437,7 @@ impl<K: Drop, V: Drop> Nodes<K, V> {
     {
         // Only the contract uses it.
         let _ = place;
-        self.order.slots.follow_mut(link.ptr).set_phase(phase);
+        self.order.slots.memory.lend(link).set_phase(phase);
     }
 
     /// Makes a node the newest idle one. Takes no memory.
@@ -477,7 +480,7 @@ impl<K: Drop, V: Drop> Nodes<K, V> {
     {
         // Only the contract uses it.
         let _ = place;
-        let node = self.order.slots.follow_mut(link.ptr);
+        let node = self.order.slots.memory.lend(link);
         let charge = node.charge;
         node.set_pins(pins + 1);
         if pins > 0 {
@@ -505,7 +508,7 @@ impl<K: Drop, V: Drop> Nodes<K, V> {
         ensures looks { self.new.looks ≡ self.old.looks }
     {
         let slot = place.slot;
-        let node = self.order.slots.follow_mut(link.ptr);
+        let node = self.order.slots.memory.lend(link);
         let charge = node.charge;
         node.set_pins(0);
         self.order.push(link.ptr, slot);
@@ -574,6 +577,7 @@ impl<K: Drop, V: Drop> Nodes<K, V> {
         ensures spare { self.old.spare ≤ self.new.spare }
         ensures work { self.new.work ≡ self.old.work }
     {
-        self.order.slots.take(place.slot)
+        self.order.slots.unlist(place.slot);
+        self.order.slots.take_out(place.slot)
     }
 }

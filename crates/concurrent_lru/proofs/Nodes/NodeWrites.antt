@@ -25,6 +25,17 @@ module _ {K V : Type 0} where
   pub looked_and_wrote : (s t u : Slots K V) → t ≡ record s { looks = t.looks } → OnlyWrites t u → OnlyLooksAndWrites s u
   looked_and_wrote s t u e f = then_writes s t u (only_looked s t e) (only_wrote t u f)
 
+  -- the link before a node was set, and then the one after it
+  pub set_both : {n m l : Node K V} {b a : Option Ptr} → IsRelinked n m b (after_link n) → IsRelinked m l (before_link m) a → IsRelinked n l b a
+  set_both first then = record {
+    entry = then.entry ∙ first.entry;
+    hash = then.hash ∙ first.hash;
+    chain = then.chain ∙ first.chain;
+    place = then.place ∙ first.place;
+    before = then.before ∙ first.before;
+    after = then.after;
+  }
+
 -- the node at p, which is now, is written to new
 module _ {K V : Type 0} (cs : NodeCells K V) (p : Ptr) (now new : Node K V) (value : AtFirst cs p (λ _ c. now ≡ c.value)) where
   module _ (k : ℕ) (at : slot_at cs p ≡ Some k) where

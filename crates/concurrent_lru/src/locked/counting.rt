@@ -4,8 +4,7 @@ ghost use Rattle.concurrent_lru.specs.CountedCalls.{counted_begin, counted_look,
 ghost use Rattle.concurrent_lru.specs.Results.{begun_without_hint};
 
 use crate::counts::Counts;
-use crate::lru_core::{Begun, Evicted, Refusal};
-use crate::table::Hint;
+use crate::lru_core::{Begun, Evicted, Hint, Refusal};
 use std::sync::Arc;
 
 // Counts the result of a lookup: a hit, a miss or a refusal.

@@ -8,9 +8,8 @@ ghost use Rattle.concurrent_lru.specs.Inserts.{Replaces, RefusesToReplace, Refus
 
 use crate::fit::Fit;
 use crate::locked::{HeldPin, Locked};
-use crate::lru_core::{Evicted, Inserted, Refusal};
+use crate::lru_core::{Evicted, Inserted, Refusal, Spot};
 use crate::sealed::Sealed;
-use crate::table::Spot;
 use std::hash::Hash;
 use std::sync::Arc;
 

@@ -6,10 +6,9 @@ ghost use Rattle.std.specs.Sync.Mutex.{mutex_guard_value};
 
 use crate::fit::Fit;
 use crate::locked::Locked;
-use crate::lru_core::{Evicted, Refusal};
+use crate::lru_core::{Evicted, Refusal, Spot};
 use crate::sealed::Sealed;
 use crate::shown::Shown;
-use crate::table::Spot;
 use std::hash::Hash;
 use std::marker::{Model, PhantomData};
 use std::snapshot::Snapshot;

@@ -111,8 +111,8 @@ where
         ensures { MatchOption result (ready_at self.now.cache stamp ≡ None)
             (λ entry. ready_at self.now.cache stamp ≡ Some (entry_of_ref entry)) }
     {
-        let spot = self.spot(stamp);
-        self.entry_at(&spot)
+        let hint = self.last;
+        self.entry_at(&Spot { stamp, hint })
     }
 
     /// Does what `entry` does, by spot.

@@ -10,6 +10,7 @@ ghost use Rattle.concurrent_lru.specs.Steps.{IsUnready};
 use crate::lru_core::State;
 use crate::node_table::Phase;
 use crate::share::Sharing;
+use crate::table::Spot;
 use std::hash::Hash;
 
 impl<K: Hash + Eq + Clone, V: Drop, M: Sharing<V>> State<K, V, M>
@@ -83,7 +84,7 @@ where
         ensures { MatchOption result (LacksStamp self.now.cache stamp)
             (λ key. HasKeyAt self.now.cache stamp key.now) }
     {
-        let spot = self.spot(stamp);
-        self.key_at(&spot)
+        let hint = self.last;
+        self.key_at(&Spot { stamp, hint })
     }
 }

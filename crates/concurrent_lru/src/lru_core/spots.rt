@@ -514,20 +514,6 @@ where
         }
     }
 
-    // Returns the stamp with the hint of the entry pinned last, which may be another entry's.
-    #[inline(always)]
-    pub(super) fn spot(&self, stamp: u64) -> Spot
-        ensures { result.stamp ≡ stamp }
-    {
-        Spot {
-            stamp,
-            hint: Hint {
-                hash: self.last.hash,
-                place: self.last.place,
-            },
-        }
-    }
-
     // Returns the stamp that the next new entry gets.
     pub(crate) fn next_stamp(&self) -> u64
         ensures { result ≡ self.now.cache.next }

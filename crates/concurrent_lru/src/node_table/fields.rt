@@ -14,24 +14,23 @@ impl<K: Drop, V: Drop> Node<K, V> {
         self.slot = slot;
     }
 
-    // Returns the link to the node before this one in the idle order, if there is one.
-    pub(super) fn before_link(&self) -> Option<*mut Node<K, V>>
-        ensures { result ≡ before_link self.now }
+    // Returns the links to the nodes before and after this one in the idle order, if there are any.
+    #[inline(always)]
+    pub(super) fn links(&self) -> (Option<*mut Node<K, V>>, Option<*mut Node<K, V>>)
+        ensures before { result.0 ≡ before_link self.now }
+        ensures after { result.1 ≡ after_link self.now }
     {
-        if self.has_before {
-            return Some(self.before);
-        }
-        None
-    }
-
-    // Returns the link to the node after this one in the idle order, if there is one.
-    pub(super) fn after_link(&self) -> Option<*mut Node<K, V>>
-        ensures { result ≡ after_link self.now }
-    {
-        if self.has_after {
-            return Some(self.after);
-        }
-        None
+        let before = if self.has_before {
+            Some(self.before)
+        } else {
+            None
+        };
+        let after = if self.has_after {
+            Some(self.after)
+        } else {
+            None
+        };
+        (before, after)
     }
 
     // Sets one link. The other is not read: a neighbour was often written last by another
@@ -58,18 +57,6 @@ impl<K: Drop, V: Drop> Node<K, V> {
             }
             None => self.has_after = false,
         }
-    }
-
-    // Sets the neighbours in the idle order.
-    pub(super) fn set_links(
-        &mut self,
-        before: Option<*mut Node<K, V>>,
-        after: Option<*mut Node<K, V>>,
-    )
-        ensures { IsRelinked self.old self.new before after }
-    {
-        self.set_before(before);
-        self.set_after(after);
     }
 
     // The contract of each setter below says of the node itself that its chain and links stay.

@@ -5,8 +5,8 @@ ghost use Rattle.concurrent_lru.specs.SlotWrites.{OnlyWrites, OnlyLooksAndWrites
 ghost use Rattle.concurrent_lru.specs.Listing.{IsListed, KeepsListings};
 ghost use Rattle.concurrent_lru.specs.SlotTable.{IsWellLinked, IsGood, Omits, ListsLink, LosesLink, JoinsLeft, JoinsRight, nodes_of, idle_of};
 
-use crate::node_table::Node;
 use crate::node_table::slots::Slots;
+use crate::node_table::{At, Node};
 use std::alloc::Global;
 
 // The nodes, and the two ends of the order of the idle ones. It has no invariant, since a method
@@ -46,10 +46,15 @@ impl<K: Drop, V: Drop> Order<K, V> {
         ensures looks { self.new.slots.looks ≡ self.old.slots.looks }
     {
         let newest = self.newest;
-        self.slots.follow_mut(pointer).set_links(newest, None);
+        let node = self.slots.memory.lend(At { ptr: pointer });
+        node.set_before(newest);
+        node.set_after(None);
         self.newest = Some(pointer);
         match newest {
-            Some(last) => self.slots.follow_mut(last).set_after(Some(pointer)),
+            Some(last) => {
+                let before = self.slots.memory.lend(At { ptr: last });
+                before.set_after(Some(pointer));
+            }
             None => self.oldest = Some(slot),
         }
     }
@@ -65,8 +70,12 @@ impl<K: Drop, V: Drop> Order<K, V> {
         ensures joined { JoinsLeft self.old self.new before after }
     {
         match before {
-            Some(link) => self.slots.follow_mut(link).set_after(after),
-            None => self.oldest = self.slots.slot_of(after),
+            Some(link) => self.slots.memory.lend(At { ptr: link }).set_after(after),
+            None => match after {
+                // A node stores its slot.
+                Some(link) => self.oldest = Some(self.slots.memory.get(At { ptr: link }).slot),
+                None => self.oldest = None,
+            },
         }
     }
 
@@ -78,7 +87,7 @@ impl<K: Drop, V: Drop> Order<K, V> {
         ensures joined { JoinsRight self.old self.new before after }
     {
         match after {
-            Some(link) => self.slots.follow_mut(link).set_before(before),
+            Some(link) => self.slots.memory.lend(At { ptr: link }).set_before(before),
             None => self.newest = before,
         }
     }
@@ -95,10 +104,10 @@ impl<K: Drop, V: Drop> Order<K, V> {
         ensures listings { KeepsListings (cells_of self.old.slots) (cells_of self.new.slots) }
         ensures looks { self.new.slots.looks ≡ self.old.slots.looks }
     {
-        let node = self.slots.follow_mut(pointer);
-        let before = node.before_link();
-        let after = node.after_link();
-        node.set_links(None, None);
+        let node = self.slots.memory.lend(At { ptr: pointer });
+        let (before, after) = node.links();
+        node.set_before(None);
+        node.set_after(None);
         self.join_left(before, after);
         self.join_right(before, after);
     }

@@ -4,15 +4,12 @@
 //! A node is reached for writing by its place, a lookup that is counted, or by a link: the one that
 //! a lookup for reading found, or one in another node.
 ghost use Rattle.std.specs.Prelude.{◌≡◌, ℕ, ◌+◌, ◌<◌, ◌≤◌, [], Some, None, IsTrue, IsFalse, OnOk, MatchOption};
-ghost use Rattle.std.specs.Borrow.{sem};
 ghost use Rattle.slab.specs.Slab.{HasRoomFor, slab_len};
-ghost use Rattle.concurrent_lru.specs.Cells.{cell_at, ptr_in, AtFirst};
+ghost use Rattle.concurrent_lru.specs.Cells.{cell_at, ptr_in};
 ghost use Rattle.concurrent_lru.specs.NodeTable.{entry_of, hash_of, chain_of};
-ghost use Rattle.concurrent_lru.specs.Relinks.{slot_in};
-ghost use Rattle.concurrent_lru.specs.SlotPointers.{IsTied, cells_of, HasNode, LeadsToNode, LeadsTo, IsNodeAt, KeepsOthers};
-ghost use Rattle.concurrent_lru.specs.SlotTable.{entry_in, IsEnd, IsGood};
-ghost use Rattle.concurrent_lru.specs.Listing.{IsListed, IsListedBut, LeadsToCandidate, HoldsSlot, LacksSlot, listing_at, hash_in, spare_of};
-ghost use Rattle.concurrent_lru.specs.Probing.OpenTable.{IsFilled};
+ghost use Rattle.concurrent_lru.specs.SlotPointers.{IsTied, cells_of, HasNode, LeadsTo, IsNodeAt, KeepsOthers};
+ghost use Rattle.concurrent_lru.specs.SlotTable.{entry_in, IsEnd};
+ghost use Rattle.concurrent_lru.specs.Listing.{IsListed, IsListedBut, HoldsSlot, listing_at, hash_in, spare_of};
 
 use crate::node_table::Node;
 use crate::node_table::memory::{At, Memory};
@@ -27,14 +24,12 @@ pub(super) struct Slots<K, V> {
     pointers: Slab<At<Node<K, V>>>,
     // The nodes that are not detached.
     pub(super) by_hash: OpenTable<At<Node<K, V>>>,
-    memory: Memory<Node<K, V>, Global>,
+    pub(super) memory: Memory<Node<K, V>, Global>,
     looks: Work,
     alloc: Global,
 }
 
 impl<K: Drop, V: Drop> Slots<K, V> {
-    ghost use Rattle.concurrent_lru.specs.SlotPointers.{lends_node};
-
     pub(super) fn new(alloc: Global) -> Slots<K, V>
         ensures tied { IsTied result }
         ensures listed { IsListed result }
@@ -117,25 +112,9 @@ impl<K: Drop, V: Drop> Slots<K, V> {
         (self.pointers.insert_reserved(at), at)
     }
 
-    // Takes out the node in a slot. This counts as a lookup, as a write does.
-    pub(super) fn take(&mut self, slot: usize) -> Box<Node<K, V>>
-        requires tied { IsTied self.old }
-        requires listed { IsListed self.old }
-        requires present { HasNode self.old slot }
-        ensures tied { IsTied self.new }
-        ensures listed { IsListed self.new }
-        ensures value { IsNodeAt self.old slot result.value }
-        ensures vacant { cell_at (cells_of self.new) slot ≡ None }
-        ensures others { KeepsOthers self.old self.new slot }
-        ensures spare { spare_of self.old ≤ spare_of self.new }
-        ensures looks { self.new.looks.count ≡ self.old.looks.count + 1 }
-    {
-        self.unlist(slot);
-        self.take_out(slot)
-    }
-
-    // Takes out the node in a slot, and leaves the table by hash as it is.
-    fn take_out(&mut self, slot: usize) -> Box<Node<K, V>>
+    // Takes out the node in a slot, and leaves the table by hash as it is. This counts as a lookup,
+    // as a write does.
+    pub(super) fn take_out(&mut self, slot: usize) -> Box<Node<K, V>>
         requires tied { IsTied self.old }
         requires present { HasNode self.old slot }
         ensures tied { IsTied self.new }
@@ -143,8 +122,7 @@ impl<K: Drop, V: Drop> Slots<K, V> {
         ensures vacant { cell_at (cells_of self.new) slot ≡ None }
         ensures others { KeepsOthers self.old self.new slot }
         ensures by_hash { self.new.by_hash ≡ self.old.by_hash }
-        ensures len { slab_len self.new.pointers + 1 ≡ slab_len self.old.pointers }
-        ensures capacity { self.new.pointers.capacity ≡ self.old.pointers.capacity }
+        ensures spare { spare_of self.old ≤ spare_of self.new }
         ensures looks { self.new.looks.count ≡ self.old.looks.count + 1 }
     {
         let at = self.pointers.remove(slot);
@@ -183,30 +161,10 @@ impl<K: Drop, V: Drop> Slots<K, V> {
         if node.detached {
             return None;
         }
-        self.find_slot(node.hash, slot)
-    }
-
-    // Returns the node that the table by hash leads to.
-    #[inline(always)]
-    pub(super) fn candidate(&self, cursor: Cursor) -> &Node<K, V>
-        requires tied { IsTied self.now }
-        requires listed { IsListed self.now }
-        requires filled { IsFilled self.now.by_hash cursor }
-        ensures { LeadsToCandidate self.now cursor result.now }
-    {
-        self.memory.get(self.by_hash.item(cursor))
-    }
-
-    // Returns where the node in a slot lies in the table, if it has this hash and is not detached.
-    fn find_slot(&self, hash: u64, slot: usize) -> Option<Cursor>
-        requires tied { IsTied self.now }
-        requires listed { IsListed self.now }
-        ensures { MatchOption result (LacksSlot self.now hash slot)
-            (λ cursor. HoldsSlot self.now cursor slot) }
-    {
+        let hash = node.hash;
         let mut at = self.by_hash.first(hash);
         'walk: while let Step::Item(cursor) = at {
-            if self.candidate(cursor).slot == slot {
+            if self.memory.get(self.by_hash.item(cursor)).slot == slot {
                 return Some(cursor);
             }
             at = self.by_hash.next(cursor);
@@ -267,35 +225,6 @@ impl<K: Drop, V: Drop> Slots<K, V> {
         ensures { LeadsTo self.now result.ptr slot }
     {
         self.pointers[slot]
-    }
-
-    // Returns the node at the end of a link for reading.
-    pub(super) fn follow(&self, link: *mut Node<K, V>) -> &Node<K, V>
-        requires { LeadsToNode self.now link }
-        ensures { AtFirst (cells_of self.now) link (λ _ c. result.now ≡ c.value) }
-    {
-        self.memory.get(At { ptr: link })
-    }
-
-    // Returns the node at the end of a link for writing.
-    pub(super) fn follow_mut(&mut self, link: *mut Node<K, V>) -> &mut Node<K, V>
-        requires { LeadsToNode self.old link }
-        ensures* writes_back { sem 𝓛 (lends_node K.row V.row self.entry link result) }
-        ensures value { AtFirst (cells_of self.old) link (λ _ c. result.now ≡ c.value) }
-    {
-        self.memory.lend(At { ptr: link })
-    }
-
-    // Returns the slot of the node at the end of a link. The node stores it.
-    pub(super) fn slot_of(&self, link: Option<*mut Node<K, V>>) -> Option<usize>
-        requires tied { IsTied self.now }
-        requires good { IsGood (cells_of self.now) link }
-        ensures { result ≡ slot_in (cells_of self.now) link }
-    {
-        match link {
-            Some(link) => Some(self.follow(link).slot),
-            None => None,
-        }
     }
 
     // Frees the node in a slot, if there is one.

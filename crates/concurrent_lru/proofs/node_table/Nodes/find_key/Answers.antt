@@ -1,18 +1,19 @@
 use Rattle.std.proofs.Common.{◌≡◌, true, false, refl, sym, ap, ◌∙◌, subst, inl, inr}
 use Rattle.std.proofs.lemmas.Bool.{cases_eq, true≢false}
 use Rattle.concurrent_lru.specs.Cells.{cell_at}
-use Rattle.concurrent_lru.specs.Listing.{listing}
+use Rattle.concurrent_lru.specs.Listing.{listing, LeadsToCandidate}
 use Rattle.concurrent_lru.specs.NodeTable.{entry_of}
 use Rattle.concurrent_lru.specs.Probing.Entries.{Holds, entry}
 use Rattle.concurrent_lru.specs.Probing.OpenTable.{mark_of, HasMark}
 use Rattle.concurrent_lru.specs.Probing.Probes.{marks_of, mark_at}
-use Rattle.concurrent_lru.proofs.Nodes.Listings.{candidate_leads, cell_listed, only_candidate, candidate_there, entry_cell, hash_cell}
+use Rattle.concurrent_lru.proofs.Nodes.Listings.{leads, candidate, candidate_leads, cell_listed, only_candidate, candidate_there, entry_cell, hash_cell}
 use Rattle.concurrent_lru.proofs.Nodes.SlotViews.{leads_link, node_had, hash_had}
 use Rattle.concurrent_lru.proofs.Nodes.ShownChanges.{shown_found}
 use Rattle.concurrent_lru.proofs.Probing.Contents.Slots.{holds_mark}
 use Rattle.concurrent_lru.proofs.Probing.Marks.{mark_filled}
 use Rattle.concurrent_lru.proofs.Probing.Tables.Lookups.{item_mark, item_filled, fewer, past, none_past}
 use Rattle.concurrent_lru.proofs.node_table.Nodes.find_key.Goals as goal
+use Rattle.concurrent_lru.proofs.node_table.Nodes.find_key.Goals.{After-get-node}
 
 pub walk-init : goal.walk-init
 walk-init g c = record {
@@ -20,8 +21,15 @@ walk-init g c = record {
   ahead = λ k slot d at hash same h. c.first-at.ensures.all k (holds_mark c.self.inside.order.slots.by_hash k (listing d) h ∙ ap mark_of hash);
 }
 
-pub candidate-node-requires-clause-filled : goal.candidate-node-requires-clause-filled
-candidate-node-requires-clause-filled g c = item_filled c.self.inside.order.slots.by_hash (mark_of c.args.hash) (mark_filled c.args.hash) c.walk.at c.in-Item.cursor c.in-Item.is c.walk.invariant.mark
+pub item-link-requires : goal.item-link-requires
+item-link-requires g c = item_filled c.self.inside.order.slots.by_hash (mark_of c.args.hash) (mark_filled c.args.hash) c.walk.at c.in-Item.cursor c.in-Item.is c.walk.invariant.mark
+
+pub get-node-requires : goal.get-node-requires
+get-node-requires g c = let s = c.self.inside.order.slots in leads s c.in-Item.cursor (entry (mark_at (marks_of s.by_hash) c.in-Item.cursor) c.item-link.result) c.self.invariant.linked.tied c.self.invariant.listed c.item-link.ensures
+
+-- the node at the cursor
+led : (g : _) (c : After-get-node g) → LeadsToCandidate c.self.inside.order.slots c.in-Item.cursor c.get-node.result.now
+led g c = let s = c.self.inside.order.slots in candidate s c.in-Item.cursor (entry (mark_at (marks_of s.by_hash) c.in-Item.cursor) c.item-link.result) c.get-node.result.now c.self.invariant.linked.tied c.self.invariant.listed c.item-link.ensures c.get-node.ensures
 
 pub next-at-requires : goal.next-at-requires
 next-at-requires g c = item_filled c.self.inside.order.slots.by_hash (mark_of c.args.hash) (mark_filled c.args.hash) c.walk.at c.in-Item.cursor c.in-Item.is c.walk.invariant.mark
@@ -31,25 +39,25 @@ walk-smaller g c = fewer c.self.inside.order.slots.by_hash (mark_of c.args.hash)
 
 pub walk-preserved : goal.walk-preserved
 walk-preserved g c =
-    let s = c.self.inside.order.slots in let n = c.candidate-node.result.now in
+    let s = c.self.inside.order.slots in let n = c.get-node.result.now in
     let mark : mark_at (marks_of s.by_hash) c.in-Item.cursor ≡ mark_of c.args.hash = item_mark s.by_hash (mark_of c.args.hash) (mark_filled c.args.hash) c.walk.at c.in-Item.cursor c.in-Item.is c.walk.invariant.mark in
     record {
       mark = subst (λ m. HasMark s.by_hash m c.next-at.result) mark c.next-at.ensures.mark;
       ahead = λ k slot d at hash same h. elim (cases_eq k c.in-Item.cursor) [
         | inl is ↦
-            let node : n ≡ d.value = only_candidate s c.in-Item.cursor slot n d (listing d) c.self.invariant.linked.tied c.candidate-node.ensures at (subst (λ j. Holds s.by_hash j (listing d)) is h) refl in
+            let node : n ≡ d.value = only_candidate s c.in-Item.cursor slot n d (listing d) c.self.invariant.linked.tied (led g (goal.at.walk-preserved g c).After-get-node) at (subst (λ j. Holds s.by_hash j (listing d)) is h) refl in
             absurd (true≢false (sym same ∙ ap (λ x. g.K.PartialEq.eq (entry_of x).key c.args.key.now) (sym node) ∙ sym c.eq.ensures ∙ c.if-eq.false))
         | inr ne ↦ past s.by_hash (mark_of c.args.hash) (mark_filled c.args.hash) c.walk.at c.next-at.result c.in-Item.cursor c.in-Item.is c.next-at.ensures.rest k ne (c.walk.invariant.ahead k slot d at hash same h)
       ];
     }
 
 pub returns-then-eq-clause-found : goal.returns-then-eq-clause-found
-returns-then-eq-clause-found g c = let to = c.candidate-node.ensures in (ap (λ x. (entry_of x).detached) to.is ∙ to.found, sym c.eq.ensures ∙ c.if-eq.true)
+returns-then-eq-clause-found g c = let to = led g (goal.at.returns-then-eq-clause-found g c).After-get-node in (ap (λ x. (entry_of x).detached) to.is ∙ to.found, sym c.eq.ensures ∙ c.if-eq.true)
 
 pub returns-then-eq-clause-node : goal.returns-then-eq-clause-node
 returns-then-eq-clause-node g c =
-    let o = c.self.inside.order in let to = c.candidate-node.ensures in
-    shown_found o _ _ c.candidate-node.result.now c.self.view_is c.self.invariant.linked (to.cell, candidate_there o.slots c.in-Item.cursor c.candidate-node.result.now c.self.invariant.linked.tied to, to.is)
+    let o = c.self.inside.order in let to = led g (goal.at.returns-then-eq-clause-node g c).After-get-node in
+    shown_found o _ _ c.get-node.result.now c.self.view_is c.self.invariant.linked (to.cell, candidate_there o.slots c.in-Item.cursor c.get-node.result.now c.self.invariant.linked.tied to, to.is)
 
 pub returns-clause-found : goal.returns-clause-found
 returns-clause-found g c = λ p e at found hash.
@@ -64,10 +72,7 @@ returns-clause-found g c = λ p e at found hash.
       | false ↦ λ other. refl
     ] refl)
 
-pub item-requires : goal.item-requires
-item-requires g c = item_filled c.self.inside.order.slots.by_hash (mark_of c.args.hash) (mark_filled c.args.hash) c.walk.at c.in-Item.cursor c.in-Item.is c.walk.invariant.mark
-
 pub returns-then-eq-clause-link : goal.returns-then-eq-clause-link
 returns-then-eq-clause-link g c =
     let o = c.self.inside.order in let s = o.slots in
-    leads_link o _ _ c.self.view_is _ _ refl c.item.result.ptr (candidate_leads s c.in-Item.cursor _ c.candidate-node.result.now (entry (mark_at (marks_of s.by_hash) c.in-Item.cursor) c.item.result) c.self.invariant.linked.tied c.candidate-node.ensures c.item.ensures refl)
+    leads_link o _ _ c.self.view_is _ _ refl c.item-link.result.ptr (candidate_leads s c.in-Item.cursor _ c.get-node.result.now (entry (mark_at (marks_of s.by_hash) c.in-Item.cursor) c.item-link.result) c.self.invariant.linked.tied (led g (goal.at.returns-then-eq-clause-link g c).After-get-node) c.item-link.ensures refl)

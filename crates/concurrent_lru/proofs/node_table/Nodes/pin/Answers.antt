@@ -12,18 +12,18 @@ use Rattle.concurrent_lru.proofs.node_table.Nodes.pin.Goals.{After-set_pins}
 no_pins : (n : ℕ) → n ≤ 0 → n ≡ 0
 no_pins n few = omega arith
 
-pub follow_mut-node-requires : goal.follow_mut-node-requires
-follow_mut-node-requires g c = ap is_some (link_leads c.self.inside.order c.self.inside.work.count c.args.self.now c.self.view_is c.args.place c.args.place refl c.self.invariant.linked.tied c.args.link.ptr c.requires.link)
+pub lend-node-requires : goal.lend-node-requires
+lend-node-requires g c = ap is_some (link_leads c.self.inside.order c.self.inside.work.count c.args.self.now c.self.view_is c.args.place c.args.place refl c.self.invariant.linked.tied c.args.link.ptr c.requires.link)
 
 -- the node was given a pin
 pinned : (g : _) (c : After-set_pins g) → IsWritten c.self.inside.order (record c.self.inside.order { slots = with_node c.self.inside.order.slots c.args.link.ptr c.set_pins.new.self }) c.args.place c.args.link.ptr (entry_with_pins (c.args.pins + 1))
 pinned g c =
     written c.self.inside.order c.self.inside.order.slots (with_node c.self.inside.order.slots c.args.link.ptr c.set_pins.new.self) (entry_with_pins (c.args.pins + 1)) (λ e. refl) c.self.invariant.linked refl c.self.invariant.linked.tied (link_leads c.self.inside.order c.self.inside.work.count c.args.self.now c.self.view_is c.args.place c.args.place refl c.self.invariant.linked.tied c.args.link.ptr c.requires.link) refl
-    (revalued (cells_of c.self.inside.order.slots) c.args.link.ptr c.follow_mut-node.result.now c.set_pins.new.self c.follow_mut-node.ensures.value (entry_with_pins (c.args.pins + 1)) c.set_pins.ensures)
+    (revalued (cells_of c.self.inside.order.slots) c.args.link.ptr c.lend-node.result.now c.set_pins.new.self c.lend-node.ensures.value (entry_with_pins (c.args.pins + 1)) c.set_pins.ensures)
 
 -- the entry of the node
-was : (g : _) (c : After-set_pins g) (e : _) → entry_at c.self.inside.order c.args.place ≡ Some e → entry_of c.follow_mut-node.result.now ≡ e
-was g c = looked_entry c.self.inside.order c.self.inside.order.slots c.args.link.ptr c.args.place refl (link_leads c.self.inside.order c.self.inside.work.count c.args.self.now c.self.view_is c.args.place c.args.place refl c.self.invariant.linked.tied c.args.link.ptr c.requires.link) c.follow_mut-node.ensures.value
+was : (g : _) (c : After-set_pins g) (e : _) → entry_at c.self.inside.order c.args.place ≡ Some e → entry_of c.lend-node.result.now ≡ e
+was g c = looked_entry c.self.inside.order c.self.inside.order.slots c.args.link.ptr c.args.place refl (link_leads c.self.inside.order c.self.inside.work.count c.args.self.now c.self.view_is c.args.place c.args.place refl c.self.invariant.linked.tied c.args.link.ptr c.requires.link) c.lend-node.ensures.value
 
 pub invariant_of-self : goal.invariant_of-self
 invariant_of-self g c =

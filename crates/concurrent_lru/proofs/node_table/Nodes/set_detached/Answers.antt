@@ -22,7 +22,7 @@ look-pointer-requires g c =
 
 -- what was unlisted was then marked
 marked : (g : _) (c : After-set_detached g) → Rewrites c.unlist.new.self (with_node c.look-pointer.new.self c.look-pointer.result c.set_detached.new.self) c.place.inside.slot entry_detached
-marked g c = looked_rewritten c.unlist.new.self c.look-pointer.new.self c.look-pointer.result c.follow_mut.result.now c.set_detached.new.self entry_detached c.look-pointer.ensures.rest c.look-pointer.ensures.link c.follow_mut.ensures.value c.set_detached.ensures
+marked g c = looked_rewritten c.unlist.new.self c.look-pointer.new.self c.look-pointer.result c.lend-node.result.now c.set_detached.new.self entry_detached c.look-pointer.ensures.rest c.look-pointer.ensures.link c.lend-node.ensures.value c.set_detached.ensures
 
 rewritten : (g : _) (c : After-set_detached g) → Rewrites c.self.inside.order.slots (with_node c.look-pointer.new.self c.look-pointer.result c.set_detached.new.self) c.place.inside.slot entry_detached
 rewritten g c = subst (λ s. Revalues (cells_of s) (cells_of (with_node c.look-pointer.new.self c.look-pointer.result c.set_detached.new.self)) c.place.inside.slot entry_detached) c.unlist.ensures.rest (marked g c)

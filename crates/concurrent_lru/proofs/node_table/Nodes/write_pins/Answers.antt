@@ -8,11 +8,11 @@ use Rattle.concurrent_lru.proofs.Nodes.ShownChanges.{shown_rewritten_only, whole
 use Rattle.concurrent_lru.proofs.node_table.Nodes.write_pins.Goals.{After-set_pins}
 use Rattle.concurrent_lru.proofs.node_table.Nodes.write_pins.Goals as goal
 
-pub follow_mut-requires : goal.follow_mut-requires
-follow_mut-requires g c = ap is_some (link_leads c.self.inside.order c.self.inside.work.count c.args.self.now c.self.view_is c.args.place c.args.place refl c.self.invariant.linked.tied c.args.link.ptr c.requires.link)
+pub lend-requires : goal.lend-requires
+lend-requires g c = ap is_some (link_leads c.self.inside.order c.self.inside.work.count c.args.self.now c.self.view_is c.args.place c.args.place refl c.self.invariant.linked.tied c.args.link.ptr c.requires.link)
 
 rewritten : (g : _) (c : After-set_pins g) → Rewrites c.self.inside.order.slots (with_node c.self.inside.order.slots c.args.link.ptr c.set_pins.new.self) c.args.place (entry_with_pins c.args.pins)
-rewritten g c = looked_rewritten c.self.inside.order.slots c.self.inside.order.slots c.args.link.ptr c.follow_mut.result.now c.set_pins.new.self (entry_with_pins c.args.pins) refl (link_leads c.self.inside.order c.self.inside.work.count c.args.self.now c.self.view_is c.args.place c.args.place refl c.self.invariant.linked.tied c.args.link.ptr c.requires.link) c.follow_mut.ensures.value c.set_pins.ensures
+rewritten g c = looked_rewritten c.self.inside.order.slots c.self.inside.order.slots c.args.link.ptr c.lend.result.now c.set_pins.new.self (entry_with_pins c.args.pins) refl (link_leads c.self.inside.order c.self.inside.work.count c.args.self.now c.self.view_is c.args.place c.args.place refl c.self.invariant.linked.tied c.args.link.ptr c.requires.link) c.lend.ensures.value c.set_pins.ensures
 
 pub invariant_of-self : goal.invariant_of-self
 invariant_of-self g c =

@@ -5,7 +5,7 @@ use Rattle.concurrent_lru.specs.NodeTable.{hash_of}
 use Rattle.concurrent_lru.specs.Probing.Entries.{Holds}
 use Rattle.concurrent_lru.specs.Probing.OpenTable.{mark_of, HasMark, walk}
 use Rattle.concurrent_lru.specs.Relinks.{NodeCell}
-use Rattle.concurrent_lru.proofs.node_table.slots.Slots.find_slot.Given as goal
+use Rattle.concurrent_lru.proofs.node_table.slots.Slots.cursor_of.Given as goal
 
 -- the node in the slot lies ahead, if it has the hash
 abbrev pub invariant-walk : goal.invariant-walk
