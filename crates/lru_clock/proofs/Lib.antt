@@ -1,3 +1,4 @@
+mod Pages
 mod Pasts
 mod ApartMakings
 mod Words

@@ -18,7 +18,7 @@ use Rattle.lru_clock.specs.History.{turns, of_place, entry_after, entry_at, entr
 use Rattle.lru_clock.specs.History.{ComesTo, HasCome}
 use Rattle.lru_clock.specs.Arrivals.{Arrives}
 use Rattle.lru_clock.specs.declared.history.Arrival.{Arrival}
-use Rattle.lru_clock.specs.Books.{EachOf, numbers}
+use Rattle.lru_clock.specs.Books.{EachAt, numbers}
 use Rattle.lru_clock.specs.Shards.{IsShardOf}
 use Rattle.lru_clock.specs.Hits.{HasArrived, Sees}
 use Rattle.lru_clock.specs.Pins.{PastOf}
@@ -324,13 +324,13 @@ module _ {K V : Type 0} where
       cc (had, has, one_entry w.key a.log.log b.log.log count (prefix_either a.log.log b.log.log zs one other))
 
 -- a property of each item of a list still holds if an item that has it is added
-pub each_push : {A : Type 0} (P : A → Type 0) (xs : List A) (y : A) → EachOf P xs → P y → EachOf P (xs ++ y ∷ [])
-each_push P [] y old new zero x is = subst P (cc is) new
+pub each_push : {A : Type 0} (P : ℕ → A → Type 0) (xs : List A) (y : A) → EachAt P xs → P (length xs) y → EachAt P (xs ++ y ∷ [])
+each_push P [] y old new zero x is = subst (P zero) (cc is) new
 each_push P [] y old new (suc k) x is = absurd (cc is)
 each_push P (z ∷ xs) y old new zero x is = old zero x is
-each_push P (z ∷ xs) y old new (suc k) x is = each_push P xs y (λ j. old (suc j)) new k x is
+each_push P (z ∷ xs) y old new (suc k) x is = each_push (λ j. P (suc j)) xs y (λ j. old (suc j)) new k x is
 
-pub each_none : {A : Type 0} (P : A → Type 0) → EachOf P []
+pub each_none : {A : Type 0} (P : ℕ → A → Type 0) → EachAt P []
 each_none P k x is = absurd (cc is)
 
 book_of : List ℕ → Book
@@ -346,11 +346,21 @@ same_book a b same = ap book_of same
 pub read_at : {A : Type 0} (xs : List A) (k : ℕ) (x : A) → k < length xs → x ≡ slice_index_or xs k x → slice_get xs k ≡ Some x
 read_at xs k x lt is = slice_get-get_or xs k x lt ∙ ap Some (sym is)
 
--- an item of a list is of the book that the tag names
-pub of_tag : {A : Type 0} (f : A → Book) (xs : List A) (k : ℕ) (r : Option (Bor A)) (tag : List ℕ) (b : Book) → EachOf (λ (x : A). numbers (f x) ≡ tag) xs → IsItemAt xs k r → tag ≡ numbers b
-    → IfSome r (λ (x : Bor A). f x.now ≡ b)
-of_tag f xs k None tag b each at names = tt
-of_tag f xs k (Some x) tag b each at names = same_book (f x.now) b (each k x.now (read_at xs k x.now at.3.0 at.1) ∙ names)
+-- an item of a page is where it was read, and of the book that the page's tag names
+pub of_page : {A : Type 0} (f : A → Book) (spot : A → ℕ × ℕ) (xs : List A) (page k : ℕ) (r : Option (Bor A)) (tag : List ℕ) (b : Book)
+    → EachAt (λ (j : ℕ) (x : A). ((spot x).1 ≡ j) × ((spot x).0 ∷ numbers (f x) ≡ tag)) xs → IsItemAt xs k r → tag ≡ page ∷ numbers b
+    → IfSome r (λ (x : Bor A). spot x.now ≡ (page, k)) × IfSome r (λ (x : Bor A). f x.now ≡ b)
+of_page f spot xs page k None tag b each at names = (tt, tt)
+of_page f spot xs page k (Some x) tag b each at names =
+    let here = each k x.now (read_at xs k x.now at.3.0 at.1) in
+    let same : (spot x.now).0 ∷ numbers (f x.now) ≡ page ∷ numbers b = here.1 ∙ names in
+    let first : (spot x.now).0 ≡ page = cc same in
+    (λ i. (first i, here.0 i), same_book (f x.now) b (cc same))
+
+-- what holds of such an item holds with its spot in the place of where it was read
+pub at_spot : {A : Type 0} (spot : A → ℕ × ℕ) (P : ℕ × ℕ → Type 0) (r : Option (Bor A)) (s : ℕ × ℕ) → IfSome r (λ (x : Bor A). spot x.now ≡ s) → P s → IfSome r (λ (x : Bor A). P (spot x.now))
+at_spot spot P None s is p = tt
+at_spot spot P (Some x) s is p = subst P (sym is) p
 
 module _ {K V : Type 0} where
   -- an entry with whose arrival a prefix ends came within it

@@ -21,4 +21,5 @@ pub mod Contents
 pub mod HistoryRule
 pub mod Hits
 pub mod Books
+pub mod Places
 pub mod Shards

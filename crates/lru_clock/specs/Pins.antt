@@ -1,4 +1,4 @@
--- What clauses see of a past, of a pin, of a handle and of an invalidation.
+-- What clauses see of a past, of a pin, of a claimed slot, of a handle and of an invalidation.
 use Rattle.std.specs.Prelude.{ℕ, List, Option}
 use Rattle.logbook.specs.Pages.{Book}
 use Rattle.lru_clock.specs.declared.history.Event.{Event}
@@ -10,14 +10,20 @@ pub record PastOf (K V : Type 0) : Type 0 where
   pub since : List (Event K V)
   pub seen : List (Event K V)
 
--- the key that was asked for, the value, the charge under which the entry was stored, if the call
--- stored it, and what was seen of a history
+-- the place of the slot, the key that was asked for, the value, the charge under which the entry
+-- was stored, if the call stored it, and what was seen of a history
 pub record PinOf (K V : Type 0) : Type 0 where
+  pub place : ℕ
   pub key : K
   pub value : V
   pub stored : Option ℕ
   pub book : Book
   pub log : List (Event K V)
+
+-- the place of the slot, and the book of its history
+pub record ClaimedOf : Type 0 where
+  pub place : ℕ
+  pub book : Book
 
 -- what a handle shows: the key that was asked for, the charge if one was given, the value, the
 -- charge under which its entry was stored, if the call stored it, and what was seen of the history

@@ -242,7 +242,7 @@ impl<K: Hash + Eq + Clone + Drop, V: Drop, R: Wait, S: BuildHasher, F: Fit<K, V>
     {
         let (shard, tag) = self.route(key);
         match shard.pin(&self.rt, tag, key, &None)? {
-            Some((place, pin)) => Ok(Some(CacheHandle::new(&self.rt, shard, place, pin, None))),
+            Some(found) => Ok(Some(CacheHandle::new(&self.rt, shard, found, None))),
             None => Ok(None),
         }
     }
@@ -298,8 +298,8 @@ impl<K: Hash + Eq + Clone + Drop, V: Drop, R: Wait, S: BuildHasher, F: Fit<K, V>
         ensures never_stale { IfErr result (λ e. e ≢ Refusal.Stale) }
     {
         let (shard, tag) = self.route(key);
-        let (place, pin) = shard.insert(&self.rt, tag, key, charge, value)?;
-        Ok(CacheHandle::new(&self.rt, shard, place, pin, Some(charge)))
+        let found = shard.insert(&self.rt, tag, key, charge, value)?;
+        Ok(CacheHandle::new(&self.rt, shard, found, Some(charge)))
     }
 
     /// Evicts the entry of a key, even a recently used one, if nobody has pinned it. Otherwise

@@ -7,6 +7,7 @@
 ghost use Rattle.std.specs.Prelude.{◌≡◌, ◌<◌, [], IfErr, IfOk, IfSome};
 ghost use Rattle.concurrent_lru.specs.Cache.{CopiesAreEqual};
 ghost use Rattle.lru_clock.specs.Hits.{Sees};
+ghost use Rattle.lru_clock.specs.Places.{place_of};
 
 mod changes;
 mod evictions;
@@ -21,7 +22,7 @@ pub use crate::clock_core::makings::Begun;
 use crate::history::Past;
 pub use crate::shard_state::ShardState;
 pub use crate::store::{Left, Looks, MOST_PINS, Released};
-use crate::store::{Pin, Slot, Store};
+use crate::store::{PinAt, Slot, Store};
 use concurrent_lru::fit::Fit;
 use concurrent_lru::sharded::Refusal;
 use std::alloc::{AllocError, Global};
@@ -71,22 +72,22 @@ impl<K: Eq + Clone + Drop, V: Drop, F: Fit<K, V>> Core<K, V, F> {
         tag: u32,
         key: &K,
         past: &Option<Past<K, V>>,
-    ) -> Result<Option<(u32, Pin<'_, K, V, F>)>, Refusal>
+    ) -> Result<Option<PinAt<'_, K, V, F>>, Refusal>
         requires book { IfSome past.now
             (λ past. past.book ≡ self.now.store.chronicle.first.book) }
         ensures pin { IfOk result (λ found. IfSome found
-            (λ f. (f.1.key ≡ key.now) × F.fits key.now f.1.value)) }
+            (λ f. (f.pin.key ≡ key.now) × F.fits key.now f.pin.value)) }
         ensures book { IfOk result (λ found. IfSome found
-            (λ f. f.1.book ≡ self.now.store.chronicle.first.book)) }
+            (λ f. f.pin.book ≡ self.now.store.chronicle.first.book)) }
         ensures since { IfSome past.now (λ past. IfOk result (λ found. IfSome found
-            (λ f. Sees K.eq past key.now f.1.value f.1.book f.1.log))) }
+            (λ f. Sees K.eq past key.now f.pin.value f.pin.book f.pin.log))) }
         ensures refused { IfErr result (λ e. e ≡ Refusal.Overflow) }
     {
         let Some((place, slot)) = self.listed(state, tag, key) else {
             return Ok(None);
         };
         match slot.pin(key, self.most_pins, past)? {
-            Some(pin) => Ok(Some((place, pin))),
+            Some(pin) => Ok(Some(PinAt { place, pin })),
             None => Ok(None),
         }
     }
@@ -94,6 +95,7 @@ impl<K: Eq + Clone + Drop, V: Drop, F: Fit<K, V>> Core<K, V, F> {
     // Returns the place and the slot of the entry that the index has for a key.
     fn listed(&self, state: &mut ShardState<K>, tag: u32, key: &K) -> Option<(u32, &Slot<K, V, F>)>
         ensures same { state.new ≡ state.old }
+        ensures place { IfSome result (λ found. place_of found.1.now.spot.value ≡ found.0) }
         ensures book { IfSome result (λ found.
             found.1.now.track.word.book ≡ self.now.store.chronicle.first.book) }
     {

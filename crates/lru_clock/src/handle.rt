@@ -6,7 +6,7 @@ ghost use Rattle.lru_clock.specs.Hits.{HasArrived};
 
 use crate::history::Log;
 use crate::shard::Shard;
-use crate::store::{Pin, Released};
+use crate::store::{PinAt, Released};
 use concurrent_lru::fit::{Anything, Fit};
 use concurrent_lru::sharded::Refusal;
 use concurrent_lru::shown::Shown;
@@ -29,8 +29,7 @@ use std::sync::Wait;
 pub struct CacheHandle<'a, K: Hash + Eq + Clone, V, R: Wait, F: Fit<K, V> = Anything> {
     rt: &'a R,
     shard: &'a Shard<K, V, F>,
-    place: u32,
-    pin: Pin<'a, K, V, F>,
+    found: PinAt<'a, K, V, F>,
     charge: Shown<Option<u64>>,
 }
 
@@ -40,36 +39,35 @@ impl<'a, K: Hash + Eq + Clone, V, R: Wait, F: Fit<K, V>> Model for CacheHandle<'
     ghost Value = { HandleOf K V };
 
     ghost view = { λ h. record {
-      key = h.pin.key;
+      key = h.found.pin.key;
       charge = h.charge.value;
-      value = h.pin.value;
-      stored = h.pin.stored;
-      book = h.pin.book;
-      log = h.pin.log;
+      value = h.found.pin.value;
+      stored = h.found.pin.stored;
+      book = h.found.pin.book;
+      log = h.found.pin.log;
     } };
 }
 
 impl<'a, K: Hash + Eq + Clone, V, R: Wait, F: Fit<K, V>> CacheHandle<'a, K, V, R, F> {
-    // Creates a handle from a pin, and the shard and place of its entry.
+    // Creates a handle from a pin and the shard of its entry.
     #[inline(always)]
     pub(crate) fn new(
         rt: &'a R,
         shard: &'a Shard<K, V, F>,
-        place: u32,
-        pin: Pin<'a, K, V, F>,
+        found: PinAt<'a, K, V, F>,
         charge: Option<u64>,
     ) -> Self
-        ensures key { result.key ≡ pin.entry.key }
+        ensures key { result.key ≡ found.entry.pin.key }
         ensures charge { result.charge ≡ charge }
-        ensures value { result.value ≡ pin.entry.value }
-        ensures stored { result.stored ≡ pin.entry.stored }
-        ensures seen { (result.book ≡ pin.entry.book) × (result.log ≡ pin.entry.log) }
+        ensures value { result.value ≡ found.entry.pin.value }
+        ensures stored { result.stored ≡ found.entry.pin.stored }
+        ensures seen { (result.book ≡ found.entry.pin.book)
+            × (result.log ≡ found.entry.pin.log) }
     {
         CacheHandle {
             rt,
             shard,
-            place,
-            pin,
+            found,
             charge: Shown::of(&charge),
         }
     }
@@ -80,7 +78,7 @@ impl<'a, K: Hash + Eq + Clone, V, R: Wait, F: Fit<K, V>> CacheHandle<'a, K, V, R
         ensures seen { (result.book ≡ self.now.book) × (result.log ≡ self.now.log) }
         ensures arrived { HasArrived K.eq self.now.log self.now.key self.now.value }
     {
-        self.pin.seen()
+        self.found.pin.seen()
     }
 
     /// Returns the value. Acquires no lock.
@@ -89,7 +87,7 @@ impl<'a, K: Hash + Eq + Clone, V, R: Wait, F: Fit<K, V>> CacheHandle<'a, K, V, R
         ensures value { result.now ≡ self.now.value }
         ensures fits { F.fits self.now.key result.now }
     {
-        self.pin.value()
+        self.found.pin.value()
     }
 }
 
@@ -108,12 +106,14 @@ impl<'a, K: Hash + Eq + Clone + Drop, V: Drop, R: Wait, F: Fit<K, V>> CacheHandl
         ensures book { IfOk result (λ h. h.book ≡ self.now.book) }
         ensures never_stale { IfErr result (λ e. e ≢ Refusal.Stale) }
     {
-        let pin = self.pin.again(self.shard.core.most_pins)?;
+        let pin = self.found.pin.again(self.shard.core.most_pins)?;
         Ok(CacheHandle {
             rt: self.rt,
             shard: self.shard,
-            place: self.place,
-            pin,
+            found: PinAt {
+                place: self.found.place,
+                pin,
+            },
             charge: self.charge.again(),
         })
     }
@@ -153,10 +153,10 @@ impl<K: Hash + Eq + Clone + Drop, V: Drop, R: Wait, F: Fit<K, V>> Drop
         let Self {
             rt,
             shard,
-            place,
-            pin,
+            found,
             charge: _,
         } = self;
+        let PinAt { place, pin } = found;
         match pin.release() {
             Released::Pinned => {}
             Released::Idle => shard.settle_if_above(),

@@ -12,7 +12,7 @@ use crate::clock_core::Core;
 use crate::history::Past;
 use crate::makings::Ticket;
 use crate::shard_state::ShardState;
-use crate::store::{Left, Looks, Pin};
+use crate::store::{Left, Looks, PinAt};
 use concurrent_lru::fit::Fit;
 use crossbeam_utils::CachePadded;
 use std::alloc::{AllocError, Global};
@@ -39,7 +39,7 @@ pub enum Turn<'a, K: Eq, V, F: Fit<K, V>> {
     /// Make the value, under this ticket.
     Make(Ticket<K, V>),
     /// Nothing: the key has an entry, which was pinned.
-    Hit(u32, Pin<'a, K, V, F>),
+    Hit(PinAt<'a, K, V, F>),
 }
 
 impl<K: Hash + Eq + Clone + Drop, V: Drop, F: Fit<K, V>> Shard<K, V, F> {

@@ -128,7 +128,7 @@ impl<K: Eq + Drop> ShardState<K> {
         taken: Taken<'a, K, V, F>,
         is_evicted: bool,
     ) -> Left<'a, K, V, F>
-        ensures book { result ≡ Some taken.entry.claimed }
+        ensures book { result ≡ Some taken.entry.claimed.book }
         ensures seats { self.new.seats ≡ set self.old.seats taken.entry.place (seat 0 0 None) }
         ensures order { self.new.order
             ≡ left taken.entry.place (charge_at self.old.seats taken.entry.place)

@@ -6,11 +6,12 @@
 //! stay as they were: a reader that still has one may miss an entry, and looks again under the
 //! lock.
 ghost use Rattle.std.specs.Prelude.{◌≡◌, ◌≢◌, ◌<◌, true, Some, None, IfErr, IfOk, IfSome};
-ghost use Rattle.std.specs.Prelude.{MatchResult, sum_by};
-ghost use Rattle.lru_clock.specs.Books.{EachOf, numbers};
+ghost use Rattle.std.specs.Prelude.{◌∷◌, MatchResult, sum_by};
+ghost use Rattle.lru_clock.specs.Books.{EachAt, numbers};
 ghost use Rattle.lru_clock.specs.Hits.{ComesLast};
 ghost use Rattle.lru_clock.specs.Looks.{LooksOnce};
 ghost use Rattle.lru_clock.specs.Orders.{IsWidened};
+ghost use Rattle.lru_clock.specs.Places.{length_of, place_of};
 ghost use Rattle.lru_clock.specs.SeatChanges.{AddsVacant};
 
 mod looks;
@@ -25,7 +26,7 @@ use crate::order::{Cost, Look, Looked, Order};
 pub use crate::store::looks::Looks;
 pub use crate::store::seats::{Reservation, Seats};
 use crate::store::slot::Claimed;
-pub use crate::store::slot::{Kept, MOST_PINS, Pin, Released, Slot, Taken};
+pub use crate::store::slot::{Kept, MOST_PINS, PinAt, Released, Slot, Taken};
 use boxcar::slot::{OnceSlot, SlotRule};
 use boxcar::tag::{Names, Tag};
 use concurrent_lru::fit::Fit;
@@ -48,14 +49,16 @@ pub const MOST_SLOTS: usize = 4_294_966_784;
 // The maximum number of indexes, since each is twice as large as the one before it.
 const LEVELS: usize = 26;
 
-/// The rule of a page: each of its slots belongs to the history that the tag of the page names.
+/// The rule of a page: each of its slots belongs to the history that the tag of the page names, and
+/// its spot is the number that the tag has of the page, and its position in the page.
 pub struct SlotsMatchTag;
 
 impl<K: Eq, V, F: Fit<K, V>> SlotRule<Vec<Slot<K, V, F>>> for SlotsMatchTag {
-    ghost use Rattle.std.specs.Prelude.{◌≡◌};
-    ghost use Rattle.lru_clock.specs.Books.{EachOf, numbers};
+    ghost use Rattle.std.specs.Prelude.{◌≡◌, ◌∷◌};
+    ghost use Rattle.lru_clock.specs.Books.{EachAt, numbers};
 
-    ghost holds = { λ tag page. EachOf (λ slot. numbers slot.track.word.book ≡ tag) page.items };
+    ghost holds = { λ tag page. EachAt (λ k slot. (slot.spot.value.1 ≡ k)
+        × (slot.spot.value.0 ∷ numbers slot.track.word.book ≡ tag)) page.items };
 }
 
 /// The rule of an index: it may be any.
@@ -67,13 +70,14 @@ impl SlotRule<Arc<Index>> for AnyIndex {
     ghost holds = { λ _ _. ⊤ };
 }
 
-// A tag names a history by the numbers of its book.
-struct BookNumbers;
+// A tag names a page by its number, and a history by the numbers of its book.
+struct PageNumbers;
 
-impl<K, V> Names<Log<K, V>> for BookNumbers {
+impl<K, V> Names<(usize, Log<K, V>)> for PageNumbers {
+    ghost use Rattle.std.specs.Prelude.{◌∷◌};
     ghost use Rattle.lru_clock.specs.Books.{numbers};
 
-    ghost numbers = { λ log. numbers log.book };
+    ghost numbers = { λ page. page.0 ∷ numbers page.1.book };
 }
 
 /// The slots of a shard, their history and their index.
@@ -85,7 +89,7 @@ pub struct Store<K: Eq, V, F: Fit<K, V>> {
     indexes: Vec<OnceSlot<Arc<Index>, AnyIndex>>,
     pages: Vec<OnceSlot<Vec<Slot<K, V, F>>, SlotsMatchTag>>,
     pub chronicle: Chronicle<K, V>,
-    ghost tags: { EachOf (λ page. page.tag ≡ numbers chronicle.first.book) pages.items },
+    ghost tags: { EachAt (λ k page. page.tag ≡ k ∷ numbers chronicle.first.book) pages.items },
 }
 
 /// A debt: an entry that was removed or refused, with the copy of its key that its seat had or
@@ -108,7 +112,7 @@ impl<'a, K: Eq, V, F: Fit<K, V>> Model for Left<'a, K, V, F> {
 
     ghost Value = { Option Book };
 
-    ghost view = { λ l. option_map (λ t. t.claimed) l.taken };
+    ghost view = { λ l. option_map (λ t. t.claimed.book) l.taken };
 }
 
 impl<'a, K: Eq + Drop, V: Drop, F: Fit<K, V>> Left<'a, K, V, F> {
@@ -125,7 +129,7 @@ impl<'a, K: Eq + Drop, V: Drop, F: Fit<K, V>> Left<'a, K, V, F> {
 
     // Returns the debt of an entry that lies in its slot.
     fn in_slot(taken: Taken<'a, K, V, F>, key_copy: Option<K>) -> Self
-        ensures { result ≡ Some taken.entry.claimed }
+        ensures { result ≡ Some taken.entry.claimed.book }
     {
         Left {
             taken: Some(taken),
@@ -136,7 +140,8 @@ impl<'a, K: Eq + Drop, V: Drop, F: Fit<K, V>> Left<'a, K, V, F> {
 
     // Takes the slot in which the entry that left lies, if the slot is at this place.
     fn take_slot(left: &mut Option<Self>, place: u32) -> Option<Claimed<'a, K, V, F>>
-        ensures { IfSome result (λ claimed. left.old ≡ Some (Some claimed)) }
+        ensures book { IfSome result (λ claimed. left.old ≡ Some (Some claimed.book)) }
+        ensures place { IfSome result (λ claimed. claimed.place ≡ place) }
     {
         let Some(left) = left else {
             return None;
@@ -195,7 +200,10 @@ impl<'a, K: Eq + Drop, V: Drop, F: Fit<K, V>> Left<'a, K, V, F> {
 // Returns the page of a place, and its position in the page. Counted from 8 * FIRST_PAGE before the
 // first place, each page of 2^k slots begins at a multiple of 2^k, from 8 * 2^k to 15 * 2^k.
 #[inline(always)]
-fn page_of(place: u32) -> (usize, usize) {
+fn page_of(place: u32) -> (usize, usize)
+    ensures place { place_of result ≡ place }
+    ensures within { result.1 < length_of result.0 }
+{
     let past = place as u64 + 8 * FIRST_PAGE as u64;
     let log = past.ilog2().wrapping_sub(3);
     let multiple = past.wrapping_shr(log);
@@ -220,28 +228,28 @@ fn new_page<K: Eq + Drop, V: Drop, F: Fit<K, V>>(
     chronicle: &Chronicle<K, V>,
 ) -> Result<Vec<Slot<K, V, F>>, AllocError>
     requires { page < 184 }
-    ensures { IfOk result (λ slots. EachOf
-        (λ slot. numbers slot.track.word.book ≡ numbers chronicle.now.first.book) slots.items) }
+    ensures { IfOk result (λ slots. EachAt (λ k slot. (slot.spot.value ≡ (page, k))
+        × (slot.track.word.book ≡ chronicle.now.first.book)) slots.items) }
 {
     let len = page_len(page);
     let mut slots = Vec::with_capacity(alloc, len)?;
     for _ in 0..len {
-        slots.push(Slot::new(chronicle))?;
+        slots.push(Slot::new(chronicle, page, slots.len()))?;
     }
     Ok(slots)
 }
 
-// Creates empty room for all pages, with the tag that names a history.
+// Creates empty room for all pages, with the tags that name them and a history.
 fn new_pages<K: Eq + Drop, V: Drop, F: Fit<K, V>>(
     alloc: Global,
     log: &Log<K, V>,
 ) -> Result<Vec<OnceSlot<Vec<Slot<K, V, F>>, SlotsMatchTag>>, AllocError>
     ensures { IfOk result
-        (λ pages. EachOf (λ page. page.tag ≡ numbers log.now.book) pages.items) }
+        (λ pages. EachAt (λ k page. page.tag ≡ k ∷ numbers log.now.book) pages.items) }
 {
-    let tag = Tag::of::<Log<K, V>, BookNumbers>(log);
     let mut pages = Vec::with_capacity(alloc, PAGES)?;
     for _ in 0..PAGES {
+        let tag = Tag::of::<(usize, Log<K, V>), PageNumbers>(&(pages.len(), log.again()));
         pages.push(OnceSlot::new(&tag))?;
     }
     Ok(pages)
@@ -279,6 +287,7 @@ impl<K: Eq + Drop, V: Drop, F: Fit<K, V>> Store<K, V, F> {
     /// Returns the slot at a place.
     #[inline(always)]
     pub fn slot(&self, place: u32) -> Option<&Slot<K, V, F>>
+        ensures place { IfSome result (λ slot. place_of slot.now.spot.value ≡ place) }
         ensures book { IfSome result
             (λ slot. slot.now.track.word.book ≡ self.now.chronicle.first.book) }
     {
@@ -300,21 +309,21 @@ impl<K: Eq + Drop, V: Drop, F: Fit<K, V>> Store<K, V, F> {
         ticket: Option<u64>,
         is_invalidated: bool,
         left: &mut Option<Left<'a, K, V, F>>,
-    ) -> Result<(u32, Pin<'a, K, V, F>), (Reservation<K>, Kept<K, V, F>)>
+    ) -> Result<PinAt<'a, K, V, F>, (Reservation<K>, Kept<K, V, F>)>
         requires fits { F.fits kept.key kept.value }
         requires asked { F.fits key.now kept.value }
         requires equal { K.eq kept.key key.now ≡ true }
         requires copy { IfSome reservation.key.value (λ copy. K.eq copy kept.key ≡ true) }
         requires book { IfSome left.old (λ l. IfSome l (λ b. b ≡ self.now.chronicle.first.book)) }
-        ensures place { MatchResult result (λ filled. filled.0 ≡ reservation.place)
+        ensures place { MatchResult result (λ filled. filled.place ≡ reservation.place)
             (λ back. back.0.place ≡ reservation.place) }
         ensures pin { IfOk result
-            (λ filled. (filled.1.key ≡ key.now) × F.fits key.now filled.1.value) }
-        ensures value { IfOk result (λ filled. filled.1.value ≡ kept.value) }
-        ensures stored { IfOk result (λ filled. filled.1.stored ≡ reservation.charge.value) }
+            (λ filled. (filled.pin.key ≡ key.now) × F.fits key.now filled.pin.value) }
+        ensures value { IfOk result (λ filled. filled.pin.value ≡ kept.value) }
+        ensures stored { IfOk result (λ filled. filled.pin.stored ≡ reservation.charge.value) }
         ensures ticket { IfSome ticket (λ t. IfOk result
-            (λ filled. ComesLast t filled.1.value filled.1.log)) }
-        ensures book { IfOk result (λ filled. filled.1.book ≡ self.now.chronicle.first.book) }
+            (λ filled. ComesLast t filled.pin.value filled.pin.log)) }
+        ensures book { IfOk result (λ filled. filled.pin.book ≡ self.now.chronicle.first.book) }
     {
         // Always `Some`, since nobody else draws a number without the lock.
         let Some((number, seen)) = self.chronicle.draw() else {
@@ -346,7 +355,7 @@ impl<K: Eq + Drop, V: Drop, F: Fit<K, V>> Store<K, V, F> {
                     key: _,
                     charge: _,
                 } = reservation;
-                Ok((place, pin))
+                Ok(PinAt { place, pin })
             }
             Err(kept) => Err((reservation, kept)),
         }
@@ -354,7 +363,8 @@ impl<K: Eq + Drop, V: Drop, F: Fit<K, V>> Store<K, V, F> {
 
     // Claims the slot at a place, if it is free.
     fn claim(&self, place: u32) -> Option<Claimed<'_, K, V, F>>
-        ensures { IfSome result (λ claimed. claimed ≡ self.now.chronicle.first.book) }
+        ensures place { IfSome result (λ claimed. claimed.place ≡ place) }
+        ensures book { IfSome result (λ claimed. claimed.book ≡ self.now.chronicle.first.book) }
     {
         self.slot(place)?.claim()
     }
@@ -363,7 +373,8 @@ impl<K: Eq + Drop, V: Drop, F: Fit<K, V>> Store<K, V, F> {
     /// pinned.
     pub fn look(&self, place: u32, cost: Cost, looks: &mut Looks) -> Option<Taken<'_, K, V, F>>
         ensures place { IfSome result (λ taken. taken.place ≡ place) }
-        ensures book { IfSome result (λ taken. taken.claimed ≡ self.now.chronicle.first.book) }
+        ensures book { IfSome result
+            (λ taken. taken.claimed.book ≡ self.now.chronicle.first.book) }
         ensures look { LooksOnce place cost looks.old.made looks.new.made result }
     {
         let (found, taken) = match self.slot(place) {
@@ -377,7 +388,8 @@ impl<K: Eq + Drop, V: Drop, F: Fit<K, V>> Store<K, V, F> {
     /// Takes out the entry at a place, whatever its chances, if nobody has pinned it.
     pub fn take_idle(&self, place: u32) -> Option<Taken<'_, K, V, F>>
         ensures place { IfSome result (λ taken. taken.place ≡ place) }
-        ensures book { IfSome result (λ taken. taken.claimed ≡ self.now.chronicle.first.book) }
+        ensures book { IfSome result
+            (λ taken. taken.claimed.book ≡ self.now.chronicle.first.book) }
     {
         self.slot(place)?.take_idle(place)
     }
@@ -385,7 +397,8 @@ impl<K: Eq + Drop, V: Drop, F: Fit<K, V>> Store<K, V, F> {
     /// Takes out the entry at a place if it was invalidated and nobody has pinned it.
     pub fn take_invalidated(&self, place: u32) -> Option<Taken<'_, K, V, F>>
         ensures place { IfSome result (λ taken. taken.place ≡ place) }
-        ensures book { IfSome result (λ taken. taken.claimed ≡ self.now.chronicle.first.book) }
+        ensures book { IfSome result
+            (λ taken. taken.claimed.book ≡ self.now.chronicle.first.book) }
     {
         self.slot(place)?.take_invalidated(place)
     }

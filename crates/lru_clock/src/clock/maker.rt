@@ -93,8 +93,8 @@ impl<'a, K: Hash + Eq + Clone + Drop, V: Drop, R: Wait, F: Fit<K, V>> Maker<'a, 
             charge: _,
             ticket,
         } = self;
-        let (place, pin) = shard.finish(rt, tag, &key, charge, value, ticket)?;
-        Ok(CacheHandle::new(rt, shard, place, pin, Some(charge)))
+        let found = shard.finish(rt, tag, &key, charge, value, ticket)?;
+        Ok(CacheHandle::new(rt, shard, found, Some(charge)))
     }
 }
 
@@ -189,9 +189,7 @@ impl<'a, K: Hash + Eq + Clone + Drop, V: Drop, R: Wait, F: Fit<K, V>> Begun<'a, 
             (λ m. m.book ≡ shard.now.core.store.chronicle.first.book) }
     {
         match turn {
-            Turn::Hit(place, pin) => {
-                Begun::Hit(CacheHandle::new(rt, shard, place, pin, Some(charge)))
-            }
+            Turn::Hit(found) => Begun::Hit(CacheHandle::new(rt, shard, found, Some(charge))),
             Turn::Make(ticket) => Begun::Make(Maker {
                 rt,
                 shard,

@@ -81,7 +81,7 @@ impl<K: Hash + Eq + Clone + Drop, V: Drop, R: Wait, S: BuildHasher, F: Fit<K, V>
             Err(refusal) => return Err(error_of(refusal)),
         };
         let found = match turn {
-            Turn::Hit(place, pin) => Ok((place, pin)),
+            Turn::Hit(found) => Ok(found),
             Turn::Make(ticket) => match init(key) {
                 Ok(value) => shard.finish(&self.rt, tag, key, charge, value, ticket),
                 Err(error) => {
@@ -91,7 +91,7 @@ impl<K: Hash + Eq + Clone + Drop, V: Drop, R: Wait, S: BuildHasher, F: Fit<K, V>
             },
         };
         match found {
-            Ok((place, pin)) => Ok(CacheHandle::new(&self.rt, shard, place, pin, Some(charge))),
+            Ok(found) => Ok(CacheHandle::new(&self.rt, shard, found, Some(charge))),
             Err(refusal) => Err(error_of(refusal)),
         }
     }
@@ -145,14 +145,14 @@ impl<K: Hash + Eq + Clone + Drop, V: Drop, R: Wait, S: BuildHasher, F: Fit<K, V>
         ensures never_stale { IfErr result (λ e. e ≢ Refusal.Stale) }
     {
         let (shard, tag) = self.route(key);
-        let (place, pin) = match shard.enter(&self.rt, tag, key, charge)? {
-            Turn::Hit(place, pin) => (place, pin),
+        let found = match shard.enter(&self.rt, tag, key, charge)? {
+            Turn::Hit(found) => found,
             Turn::Make(ticket) => {
                 let value = init(key);
                 shard.finish(&self.rt, tag, key, charge, value, ticket)?
             }
         };
-        Ok(CacheHandle::new(&self.rt, shard, place, pin, Some(charge)))
+        Ok(CacheHandle::new(&self.rt, shard, found, Some(charge)))
     }
 
     /// `get_or_try_init_by` with an `init` that also returns the charge of the value: it need not
@@ -188,13 +188,11 @@ impl<K: Hash + Eq + Clone + Drop, V: Drop, R: Wait, S: BuildHasher, F: Fit<K, V>
             Err(refusal) => return Err(error_of(refusal)),
         };
         match turn {
-            Turn::Hit(place, pin) => Ok(CacheHandle::new(&self.rt, shard, place, pin, None)),
+            Turn::Hit(found) => Ok(CacheHandle::new(&self.rt, shard, found, None)),
             Turn::Make(ticket) => match init(key) {
                 Ok((value, charge)) => {
                     match shard.finish(&self.rt, tag, key, charge, value, ticket) {
-                        Ok((place, pin)) => {
-                            Ok(CacheHandle::new(&self.rt, shard, place, pin, Some(charge)))
-                        }
+                        Ok(found) => Ok(CacheHandle::new(&self.rt, shard, found, Some(charge))),
                         Err(refusal) => Err(error_of(refusal)),
                     }
                 }
@@ -230,11 +228,11 @@ impl<K: Hash + Eq + Clone + Drop, V: Drop, R: Wait, S: BuildHasher, F: Fit<K, V>
     {
         let (shard, tag) = self.route(key);
         match shard.enter(&self.rt, tag, key, 1)? {
-            Turn::Hit(place, pin) => Ok(CacheHandle::new(&self.rt, shard, place, pin, None)),
+            Turn::Hit(found) => Ok(CacheHandle::new(&self.rt, shard, found, None)),
             Turn::Make(ticket) => {
                 let (value, charge) = init(key);
-                let (place, pin) = shard.finish(&self.rt, tag, key, charge, value, ticket)?;
-                Ok(CacheHandle::new(&self.rt, shard, place, pin, Some(charge)))
+                let found = shard.finish(&self.rt, tag, key, charge, value, ticket)?;
+                Ok(CacheHandle::new(&self.rt, shard, found, Some(charge)))
             }
         }
     }

@@ -60,9 +60,9 @@ impl<K: Hash + Eq + Clone + Drop, V: Drop, R: Wait, S: BuildHasher, F: Fit<K, V>
     {
         let (shard, tag) = self.route(key);
         match shard.pin(&self.rt, tag, key, &Some(past.again()))? {
-            Some((place, pin)) => {
-                *past = past.after(pin.seen());
-                Ok(Some(CacheHandle::new(&self.rt, shard, place, pin, None)))
+            Some(found) => {
+                *past = past.after(found.pin.seen());
+                Ok(Some(CacheHandle::new(&self.rt, shard, found, None)))
             }
             None => Ok(None),
         }

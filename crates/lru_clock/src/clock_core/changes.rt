@@ -10,7 +10,7 @@ ghost use Rattle.lru_clock.specs.Seats.{seat, LacksKey};
 
 use crate::clock_core::Core;
 use crate::shard_state::ShardState;
-use crate::store::{Kept, Left, MOST_SLOTS, Pin, Reservation};
+use crate::store::{Kept, Left, MOST_SLOTS, PinAt, Reservation};
 use concurrent_lru::fit::Fit;
 use concurrent_lru::sharded::Refusal;
 use std::marker::PhantomData;
@@ -75,7 +75,7 @@ impl<K: Eq + Clone + Drop, V: Drop, F: Fit<K, V>> Core<K, V, F> {
         key_copy: Option<K>,
         ticket: Option<u64>,
         left: &mut Option<Left<'a, K, V, F>>,
-    ) -> Result<(u32, Pin<'a, K, V, F>), (Refusal, Left<'a, K, V, F>)>
+    ) -> Result<PinAt<'a, K, V, F>, (Refusal, Left<'a, K, V, F>)>
         requires fits { F.fits kept.key kept.value }
         requires asked { F.fits key.now kept.value }
         requires equal { K.eq kept.key key.now ≡ true }
@@ -83,22 +83,22 @@ impl<K: Eq + Clone + Drop, V: Drop, F: Fit<K, V>> Core<K, V, F> {
         requires book { IfSome left.old
             (λ l. IfSome l (λ b. b ≡ self.now.store.chronicle.first.book)) }
         ensures pin { IfOk result
-            (λ found. (found.1.key ≡ key.now) × F.fits key.now found.1.value) }
-        ensures value { IfOk result (λ found. found.1.value ≡ kept.value) }
-        ensures stored { IfOk result (λ found. found.1.stored ≡ Some charge) }
+            (λ found. (found.pin.key ≡ key.now) × F.fits key.now found.pin.value) }
+        ensures value { IfOk result (λ found. found.pin.value ≡ kept.value) }
+        ensures stored { IfOk result (λ found. found.pin.stored ≡ Some charge) }
         ensures ticket { IfSome ticket (λ t. IfOk result
-            (λ found. ComesLast t found.1.value found.1.log)) }
+            (λ found. ComesLast t found.pin.value found.pin.log)) }
         ensures book { IfOk result
-            (λ found. found.1.book ≡ self.now.store.chronicle.first.book) }
+            (λ found. found.pin.book ≡ self.now.store.chronicle.first.book) }
         ensures never_stale { IfErr result (λ e. e.0 ≢ Refusal.Stale) }
         ensures within { IfOk result (λ _. refuses state.old.is_strict state.old.capacity
             state.old.seats charge ≡ false) }
         ensures order { MatchResult result
-            (λ found. Comes state.new.seats found.0 state.old.capacity
+            (λ found. Comes state.new.seats found.place state.old.capacity
             state.old.order state.new.order)
             (λ _. IsWidened state.old.order state.new.order) }
         ensures charged { MatchResult result
-            (λ found. Charges charge found.0 state.old.seats state.new.seats)
+            (λ found. Charges charge found.place state.old.seats state.new.seats)
             (λ _. sum_by (λ seat. seat.charge) state.new.seats
             ≡ sum_by (λ seat. seat.charge) state.old.seats) }
         ensures refused { IfErr result (λ _. AddsVacant state.old.seats state.new.seats) }
@@ -116,10 +116,10 @@ impl<K: Eq + Clone + Drop, V: Drop, F: Fit<K, V>> Core<K, V, F> {
             .store
             .fill(reservation, key, kept, ticket, !is_listed, left)
         {
-            Ok((place, pin)) => {
-                self.list(state, place);
-                state.come(place);
-                Ok((place, pin))
+            Ok(found) => {
+                self.list(state, found.place);
+                state.come(found.place);
+                Ok(found)
             }
             Err((reservation, kept)) => {
                 let refused = Left::refused(kept, state.seats.cancel(reservation));

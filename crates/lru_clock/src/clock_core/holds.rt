@@ -8,7 +8,7 @@ ghost use Rattle.lru_clock.specs.Seats.{seat};
 
 use crate::clock_core::Core;
 use crate::shard_state::ShardState;
-use crate::store::{Left, Released};
+use crate::store::{Left, PinAt, Released};
 use concurrent_lru::fit::Fit;
 use concurrent_lru::sharded::Refusal;
 
@@ -152,7 +152,7 @@ impl<K: Eq + Clone + Drop, V: Copy + Drop, F: Fit<K, V>> Core<K, V, F> {
         if let Some(left) = left {
             drop(left.into_parts());
         }
-        let (place, pin) = match stored {
+        let PinAt { place, pin } = match stored {
             Ok(found) => found,
             Err((refusal, refused)) => {
                 drop(refused.into_parts());

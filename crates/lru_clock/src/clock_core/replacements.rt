@@ -7,7 +7,7 @@ ghost use Rattle.lru_clock.specs.SeatChanges.{AddsVacant, VacatesAny};
 
 use crate::clock_core::Core;
 use crate::shard_state::ShardState;
-use crate::store::{Kept, Left, Looks, Pin, Reservation};
+use crate::store::{Kept, Left, Looks, PinAt, Reservation};
 use concurrent_lru::fit::Fit;
 use concurrent_lru::sharded::Refusal;
 
@@ -75,7 +75,7 @@ impl<K: Eq + Clone + Drop, V: Drop, F: Fit<K, V>> Core<K, V, F> {
         key_copy: K,
         evicted: Option<Left<'a, K, V, F>>,
     ) -> (
-        Result<(u32, Pin<'a, K, V, F>), (Refusal, Left<'a, K, V, F>)>,
+        Result<PinAt<'a, K, V, F>, (Refusal, Left<'a, K, V, F>)>,
         Option<Left<'a, K, V, F>>,
     )
         requires fits { F.fits kept.key kept.value }
@@ -84,11 +84,11 @@ impl<K: Eq + Clone + Drop, V: Drop, F: Fit<K, V>> Core<K, V, F> {
         requires copy { K.eq key_copy kept.key ≡ true }
         requires book { IfSome evicted (λ l. l ≡ Some self.now.store.chronicle.first.book) }
         ensures pin { IfOk result.0
-            (λ found. (found.1.key ≡ key.now) × F.fits key.now found.1.value) }
-        ensures value { IfOk result.0 (λ found. found.1.value ≡ kept.value) }
-        ensures stored { IfOk result.0 (λ found. found.1.stored ≡ Some charge) }
+            (λ found. (found.pin.key ≡ key.now) × F.fits key.now found.pin.value) }
+        ensures value { IfOk result.0 (λ found. found.pin.value ≡ kept.value) }
+        ensures stored { IfOk result.0 (λ found. found.pin.stored ≡ Some charge) }
         ensures book { IfOk result.0
-            (λ found. found.1.book ≡ self.now.store.chronicle.first.book) }
+            (λ found. found.pin.book ≡ self.now.store.chronicle.first.book) }
         ensures never_stale { IfErr result.0 (λ e. e.0 ≢ Refusal.Stale) }
         ensures refused { IfErr result.0
             (λ _. IfNone result.1 (AddsVacant state.old.seats state.new.seats)) }
@@ -120,7 +120,7 @@ impl<K: Eq + Clone + Drop, V: Drop, F: Fit<K, V>> Core<K, V, F> {
         kept: Kept<K, V, F>,
         key_copy: K,
     ) -> (
-        Result<(u32, Pin<'_, K, V, F>), (Refusal, Left<'_, K, V, F>)>,
+        Result<PinAt<'_, K, V, F>, (Refusal, Left<'_, K, V, F>)>,
         Option<Left<'_, K, V, F>>,
     )
         requires fits { F.fits kept.key kept.value }
@@ -128,11 +128,11 @@ impl<K: Eq + Clone + Drop, V: Drop, F: Fit<K, V>> Core<K, V, F> {
         requires equal { K.eq kept.key key.now ≡ true }
         requires copy { K.eq key_copy kept.key ≡ true }
         ensures pin { IfOk result.0
-            (λ found. (found.1.key ≡ key.now) × F.fits key.now found.1.value) }
-        ensures value { IfOk result.0 (λ found. found.1.value ≡ kept.value) }
-        ensures stored { IfOk result.0 (λ found. found.1.stored ≡ Some charge) }
+            (λ found. (found.pin.key ≡ key.now) × F.fits key.now found.pin.value) }
+        ensures value { IfOk result.0 (λ found. found.pin.value ≡ kept.value) }
+        ensures stored { IfOk result.0 (λ found. found.pin.stored ≡ Some charge) }
         ensures book { IfOk result.0
-            (λ found. found.1.book ≡ self.now.store.chronicle.first.book) }
+            (λ found. found.pin.book ≡ self.now.store.chronicle.first.book) }
         ensures never_stale { IfErr result.0 (λ e. e.0 ≢ Refusal.Stale) }
         ensures refused { IfErr result.0
             (λ _. IfNone result.1 (AddsVacant state.old.seats state.new.seats)) }
@@ -152,10 +152,10 @@ impl<K: Eq + Clone + Drop, V: Drop, F: Fit<K, V>> Core<K, V, F> {
             }
         };
         match self.fill_vacant(reservation, key, kept) {
-            Ok((place, pin)) => (
-                Ok((place, pin)),
-                self.settle_in(state, tag, key, place, old),
-            ),
+            Ok(found) => {
+                let left = self.settle_in(state, tag, key, found.place, old);
+                (Ok(found), left)
+            }
             // Never happens, as `fill` says. An entry that has given way stays away then.
             Err((reservation, kept)) => {
                 let refused = Left::refused(kept, state.seats.cancel(reservation));
@@ -196,19 +196,19 @@ impl<K: Eq + Clone + Drop, V: Drop, F: Fit<K, V>> Core<K, V, F> {
         reservation: Reservation<K>,
         key: &K,
         kept: Kept<K, V, F>,
-    ) -> Result<(u32, Pin<'_, K, V, F>), (Reservation<K>, Kept<K, V, F>)>
+    ) -> Result<PinAt<'_, K, V, F>, (Reservation<K>, Kept<K, V, F>)>
         requires fits { F.fits kept.key kept.value }
         requires asked { F.fits key.now kept.value }
         requires equal { K.eq kept.key key.now ≡ true }
         requires copy { IfSome reservation.key.value (λ copy. K.eq copy kept.key ≡ true) }
-        ensures place { MatchResult result (λ filled. filled.0 ≡ reservation.place)
+        ensures place { MatchResult result (λ filled. filled.place ≡ reservation.place)
             (λ back. back.0.place ≡ reservation.place) }
         ensures pin { IfOk result
-            (λ filled. (filled.1.key ≡ key.now) × F.fits key.now filled.1.value) }
-        ensures value { IfOk result (λ filled. filled.1.value ≡ kept.value) }
-        ensures stored { IfOk result (λ filled. filled.1.stored ≡ reservation.charge.value) }
+            (λ filled. (filled.pin.key ≡ key.now) × F.fits key.now filled.pin.value) }
+        ensures value { IfOk result (λ filled. filled.pin.value ≡ kept.value) }
+        ensures stored { IfOk result (λ filled. filled.pin.stored ≡ reservation.charge.value) }
         ensures book { IfOk result
-            (λ filled. filled.1.book ≡ self.now.store.chronicle.first.book) }
+            (λ filled. filled.pin.book ≡ self.now.store.chronicle.first.book) }
     {
         let mut left = None;
         let filled = self

@@ -8,7 +8,7 @@ use crate::clock_core::Invalidated;
 use crate::history::Past;
 use crate::makings::{Ended, Ticket};
 use crate::shard::Shard;
-use crate::store::{Looks, Pin};
+use crate::store::{Looks, PinAt};
 use concurrent_lru::fit::Fit;
 use concurrent_lru::sharded::Refusal;
 use std::hash::Hash;
@@ -47,16 +47,16 @@ impl<K: Hash + Eq + Clone + Drop, V: Drop, F: Fit<K, V>> Shard<K, V, F> {
         charge: u64,
         value: V,
         ticket: Ticket<K, V>,
-    ) -> Result<(u32, Pin<'_, K, V, F>), Refusal>
+    ) -> Result<PinAt<'_, K, V, F>, Refusal>
         requires fits { F.fits key.now value }
         ensures pin { IfOk result
-            (λ found. (found.1.key ≡ key.now) × F.fits key.now found.1.value) }
-        ensures value { IfOk result (λ found. found.1.value ≡ value) }
-        ensures stored { IfOk result (λ found. found.1.stored ≡ Some charge) }
+            (λ found. (found.pin.key ≡ key.now) × F.fits key.now found.pin.value) }
+        ensures value { IfOk result (λ found. found.pin.value ≡ value) }
+        ensures stored { IfOk result (λ found. found.pin.stored ≡ Some charge) }
         ensures ticket { IfOk result
-            (λ found. ComesLast ticket.number found.1.value found.1.log) }
+            (λ found. ComesLast ticket.number found.pin.value found.pin.log) }
         ensures book { IfOk result
-            (λ found. found.1.book ≡ self.now.core.store.chronicle.first.book) }
+            (λ found. found.pin.book ≡ self.now.core.store.chronicle.first.book) }
         ensures never_stale { IfErr result (λ e. e ≢ Refusal.Stale) }
     {
         let kept = match self.core.new_entry(key, value) {
@@ -118,14 +118,14 @@ impl<K: Hash + Eq + Clone + Drop, V: Drop, F: Fit<K, V>> Shard<K, V, F> {
         key: &K,
         charge: u64,
         value: V,
-    ) -> Result<(u32, Pin<'_, K, V, F>), Refusal>
+    ) -> Result<PinAt<'_, K, V, F>, Refusal>
         requires fits { F.fits key.now value }
         ensures pin { IfOk result
-            (λ found. (found.1.key ≡ key.now) × F.fits key.now found.1.value) }
-        ensures value { IfOk result (λ found. found.1.value ≡ value) }
-        ensures stored { IfOk result (λ found. found.1.stored ≡ Some charge) }
+            (λ found. (found.pin.key ≡ key.now) × F.fits key.now found.pin.value) }
+        ensures value { IfOk result (λ found. found.pin.value ≡ value) }
+        ensures stored { IfOk result (λ found. found.pin.stored ≡ Some charge) }
         ensures book { IfOk result
-            (λ found. found.1.book ≡ self.now.core.store.chronicle.first.book) }
+            (λ found. found.pin.book ≡ self.now.core.store.chronicle.first.book) }
         ensures never_stale { IfErr result (λ e. e ≢ Refusal.Stale) }
     {
         let kept = self.core.new_entry(key, value)?;

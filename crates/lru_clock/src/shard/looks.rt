@@ -7,7 +7,7 @@ ghost use Rattle.lru_clock.specs.Turns.{IfHit};
 use crate::history::Past;
 use crate::shard::{Shard, Turn};
 use crate::shard_state::{Counts, Numbers, ShardState};
-use crate::store::Pin;
+use crate::store::PinAt;
 use concurrent_lru::fit::Fit;
 use concurrent_lru::sharded::Refusal;
 use std::hash::Hash;
@@ -25,15 +25,15 @@ impl<K: Hash + Eq + Clone + Drop, V: Drop, F: Fit<K, V>> Shard<K, V, F> {
         tag: u32,
         key: &K,
         past: &Option<Past<K, V>>,
-    ) -> Result<Option<(u32, Pin<'_, K, V, F>)>, Refusal>
+    ) -> Result<Option<PinAt<'_, K, V, F>>, Refusal>
         requires book { IfSome past.now
             (λ past. past.book ≡ self.now.core.store.chronicle.first.book) }
         ensures pin { IfOk result (λ found. IfSome found
-            (λ f. (f.1.key ≡ key.now) × F.fits key.now f.1.value)) }
+            (λ f. (f.pin.key ≡ key.now) × F.fits key.now f.pin.value)) }
         ensures book { IfOk result (λ found. IfSome found
-            (λ f. f.1.book ≡ self.now.core.store.chronicle.first.book)) }
+            (λ f. f.pin.book ≡ self.now.core.store.chronicle.first.book)) }
         ensures since { IfSome past.now (λ past. IfOk result (λ found. IfSome found
-            (λ f. Sees K.eq past key.now f.1.value f.1.book f.1.log))) }
+            (λ f. Sees K.eq past key.now f.pin.value f.pin.book f.pin.log))) }
         ensures refused { IfErr result (λ e. e ≡ Refusal.Overflow) }
     {
         match self.find(tag, key, past)? {
@@ -51,15 +51,15 @@ impl<K: Hash + Eq + Clone + Drop, V: Drop, F: Fit<K, V>> Shard<K, V, F> {
         tag: u32,
         key: &K,
         past: &Option<Past<K, V>>,
-    ) -> Result<Option<(u32, Pin<'_, K, V, F>)>, Refusal>
+    ) -> Result<Option<PinAt<'_, K, V, F>>, Refusal>
         requires book { IfSome past.now
             (λ past. past.book ≡ self.now.core.store.chronicle.first.book) }
         ensures pin { IfOk result (λ found. IfSome found
-            (λ f. (f.1.key ≡ key.now) × F.fits key.now f.1.value)) }
+            (λ f. (f.pin.key ≡ key.now) × F.fits key.now f.pin.value)) }
         ensures book { IfOk result (λ found. IfSome found
-            (λ f. f.1.book ≡ self.now.core.store.chronicle.first.book)) }
+            (λ f. f.pin.book ≡ self.now.core.store.chronicle.first.book)) }
         ensures since { IfSome past.now (λ past. IfOk result (λ found. IfSome found
-            (λ f. Sees K.eq past key.now f.1.value f.1.book f.1.log))) }
+            (λ f. Sees K.eq past key.now f.pin.value f.pin.book f.pin.log))) }
         ensures refused { IfErr result (λ e. e ≡ Refusal.Overflow) }
     {
         let Some(index) = self.core.store.index() else {
@@ -72,7 +72,7 @@ impl<K: Hash + Eq + Clone + Drop, V: Drop, F: Fit<K, V>> Shard<K, V, F> {
             };
             if let Some(slot) = self.core.store.slot(place) {
                 if let Some(pin) = slot.pin(key, self.core.most_pins, past)? {
-                    return Ok(Some((place, pin)));
+                    return Ok(Some(PinAt { place, pin }));
                 }
                 // The pin under which another key's entry was compared may have kept that entry
                 // from being evicted.
@@ -90,15 +90,15 @@ impl<K: Hash + Eq + Clone + Drop, V: Drop, F: Fit<K, V>> Shard<K, V, F> {
         tag: u32,
         key: &K,
         past: &Option<Past<K, V>>,
-    ) -> Result<Option<(u32, Pin<'_, K, V, F>)>, Refusal>
+    ) -> Result<Option<PinAt<'_, K, V, F>>, Refusal>
         requires book { IfSome past.now
             (λ past. past.book ≡ self.now.core.store.chronicle.first.book) }
         ensures pin { IfOk result (λ found. IfSome found
-            (λ f. (f.1.key ≡ key.now) × F.fits key.now f.1.value)) }
+            (λ f. (f.pin.key ≡ key.now) × F.fits key.now f.pin.value)) }
         ensures book { IfOk result (λ found. IfSome found
-            (λ f. f.1.book ≡ self.now.core.store.chronicle.first.book)) }
+            (λ f. f.pin.book ≡ self.now.core.store.chronicle.first.book)) }
         ensures since { IfSome past.now (λ past. IfOk result (λ found. IfSome found
-            (λ f. Sees K.eq past key.now f.1.value f.1.book f.1.log))) }
+            (λ f. Sees K.eq past key.now f.pin.value f.pin.book f.pin.log))) }
         ensures refused { IfErr result (λ e. e ≡ Refusal.Overflow) }
     {
         let mut guard = self.lock(rt);
@@ -125,7 +125,7 @@ impl<K: Hash + Eq + Clone + Drop, V: Drop, F: Fit<K, V>> Shard<K, V, F> {
         ensures never_stale { IfErr result (λ e. e ≢ Refusal.Stale) }
     {
         match self.find(tag, key, &None)? {
-            Some((place, pin)) => Ok(Turn::Hit(place, pin)),
+            Some(found) => Ok(Turn::Hit(found)),
             None => self.begin(rt, tag, key, charge),
         }
     }
@@ -199,8 +199,8 @@ impl<K: Hash + Eq + Clone + Drop, V: Drop, F: Fit<K, V>> Shard<K, V, F> {
             (λ turn. IfHit turn (λ p. p.book ≡ self.now.core.store.chronicle.first.book))) }
         ensures never_stale { IfErr result (λ e. e ≢ Refusal.Stale) }
     {
-        if let Some((place, pin)) = self.find(tag, key, &None)? {
-            return Ok(Some(Turn::Hit(place, pin)));
+        if let Some(found) = self.find(tag, key, &None)? {
+            return Ok(Some(Turn::Hit(found)));
         }
         let mut guard = self.lock(rt);
         let turn = self.take_turn(&mut guard, tag, key, charge);
@@ -225,8 +225,8 @@ impl<K: Hash + Eq + Clone + Drop, V: Drop, F: Fit<K, V>> Shard<K, V, F> {
             (λ turn. IfHit turn (λ p. p.book ≡ self.now.core.store.chronicle.first.book))) }
         ensures never_stale { IfErr result (λ e. e ≢ Refusal.Stale) }
     {
-        if let Some((place, pin)) = self.core.find_listed(state, tag, key, &None)? {
-            return Ok(Some(Turn::Hit(place, pin)));
+        if let Some(found) = self.core.find_listed(state, tag, key, &None)? {
+            return Ok(Some(Turn::Hit(found)));
         }
         match self.core.start(state, key, charge)? {
             Some(ticket) => Ok(Some(Turn::Make(ticket))),

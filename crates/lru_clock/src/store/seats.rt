@@ -238,7 +238,7 @@ impl<K: Eq + Drop> Seats<K> {
         taken: Taken<'a, K, V, F>,
     ) -> Left<'a, K, V, F>
         ensures seats { self.new ≡ set self.old taken.entry.place (seat_of 0 0 None) }
-        ensures book { result ≡ Some taken.entry.claimed }
+        ensures book { result ≡ Some taken.entry.claimed.book }
     {
         let key_copy = self.empty(taken.place);
         Left::in_slot(taken, key_copy)

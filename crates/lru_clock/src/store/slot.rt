@@ -38,6 +38,7 @@ ghost use Rattle.std.specs.Prelude.{MatchOption};
 ghost use Rattle.lru_slot.specs.Words.{readers, Gains, IsTurn};
 ghost use Rattle.lru_clock.specs.Hits.{Sees};
 ghost use Rattle.lru_clock.specs.Looks.{after_look as after_look_};
+ghost use Rattle.lru_clock.specs.Places.{place_of};
 
 mod claimed;
 mod content;
@@ -84,6 +85,8 @@ pub struct Slot<K: Eq, V, F: Fit<K, V>> {
     cell: Counted<Content<K, V, F>>,
     // The slot's counter in the history.
     pub track: Track<K, V>,
+    // The number of the slot's page, and the slot's position there.
+    pub spot: Shown<(usize, usize)>,
     ghost same: { cell ≡ track.word },
 }
 
@@ -91,9 +94,9 @@ const _: () = prove!(size_of::<Slot<u64, u64, Anything>>() == 48);
 
 /// A debt: a pin. `release` takes it; until then the entry is neither freed nor evicted.
 ///
-/// Clauses see the key that the caller asked for, the value, which fits that key by the mark `F`,
-/// the charge under which the call stored the entry, if it did (`stored`), and the prefix of the
-/// history that the call saw.
+/// Clauses see the place of its slot, the key that the caller asked for, the value, which fits that
+/// key by the mark `F`, the charge under which the call stored the entry, if it did (`stored`), and
+/// the prefix of the history that the call saw.
 pub struct Pin<'a, K: Eq, V, F: Fit<K, V>> {
     slot: &'a Slot<K, V, F>,
     claim: Claim<'a, Content<K, V, F>>,
@@ -108,10 +111,12 @@ impl<'a, K: Eq, V, F: Fit<K, V>> Model for Pin<'a, K, V, F> {
     ghost use Rattle.lru_clock.specs.Contents.{HasValue};
     ghost use Rattle.lru_clock.specs.Hits.{HasArrived};
     ghost use Rattle.lru_clock.specs.Pins.{PinOf};
+    ghost use Rattle.lru_clock.specs.Places.{place_of};
 
     ghost Value = { PinOf K V };
 
     ghost view = { λ p. record {
+      place = place_of p.slot.now.spot.value;
       key = p.asked.value;
       value = p.shown.value;
       stored = p.stored.value;
@@ -124,6 +129,13 @@ impl<'a, K: Eq, V, F: Fit<K, V>> Model for Pin<'a, K, V, F> {
         × HasValue p.claim.value p.shown.value
         × F.fits p.asked.value p.shown.value
         × HasArrived K.eq p.seen.log p.asked.value p.shown.value };
+}
+
+/// A pin of the entry at a place.
+pub struct PinAt<'a, K: Eq, V, F: Fit<K, V>> {
+    pub place: u32,
+    pub pin: Pin<'a, K, V, F>,
+    pub ghost at: { pin.place ≡ place },
 }
 
 /// The state of an entry after a pin of it was released.
@@ -179,14 +191,16 @@ fn after_look(word: u64, cost: Cost) -> u64
 }
 
 impl<K: Eq + Drop, V: Drop, F: Fit<K, V>> Slot<K, V, F> {
-    /// Creates an empty slot, and adds it to a history.
-    pub(super) fn new(chronicle: &Chronicle<K, V>) -> Self
+    /// Creates the empty slot at a position of a page, and adds it to a history.
+    pub(super) fn new(chronicle: &Chronicle<K, V>, page: usize, at: usize) -> Self
         ensures book { result.track.word.book ≡ chronicle.now.first.book }
+        ensures spot { result.spot.value ≡ (page, at) }
     {
         let track = chronicle.begin();
         Slot {
             cell: Counted::new(Content::Empty, &track.word),
             track,
+            spot: Shown::of(&(page, at)),
         }
     }
 
@@ -208,6 +222,8 @@ impl<K: Eq + Drop, V: Drop, F: Fit<K, V>> Slot<K, V, F> {
         requires book { IfSome past.now (λ p. p.book ≡ self.now.track.word.book) }
         ensures pin { IfOk result (λ found. IfSome found
             (λ p. (p.key ≡ key.now) × F.fits key.now p.value)) }
+        ensures place { IfOk result (λ found. IfSome found
+            (λ p. p.place ≡ place_of self.now.spot.value)) }
         ensures book { IfOk result (λ found. IfSome found
             (λ p. p.book ≡ self.now.track.word.book)) }
         ensures since { IfSome past.now (λ past. IfOk result (λ found. IfSome found
@@ -237,6 +253,8 @@ impl<K: Eq + Drop, V: Drop, F: Fit<K, V>> Slot<K, V, F> {
         requires book { IfSome past.now (λ p. p.book ≡ self.now.track.word.book) }
         ensures pin { IfOk result (λ found. IfSome found
             (λ p. (p.key ≡ key.now) × F.fits key.now p.value)) }
+        ensures place { IfOk result (λ found. IfSome found
+            (λ p. p.place ≡ place_of self.now.spot.value)) }
         ensures book { IfOk result (λ found. IfSome found
             (λ p. p.book ≡ self.now.track.word.book)) }
         ensures since { IfSome past.now (λ past. IfOk result (λ found. IfSome found
@@ -325,7 +343,9 @@ impl<K: Eq + Drop, V: Drop, F: Fit<K, V>> Slot<K, V, F> {
 
     /// Claims a free slot, which is about to get an entry. Returns `None` if the slot is not free.
     pub(super) fn claim(&self) -> Option<Claimed<'_, K, V, F>>
-        ensures { IfSome result (λ claimed. claimed ≡ self.now.track.word.book) }
+        ensures place { IfSome result
+            (λ claimed. claimed.place ≡ place_of self.now.spot.value) }
+        ensures book { IfSome result (λ claimed. claimed.book ≡ self.now.track.word.book) }
     {
         let (found, claim) = self.cell.turn(FREE, TAKEN);
         if found != FREE {
@@ -391,9 +411,11 @@ impl<K: Eq + Drop, V: Drop, F: Fit<K, V>> Slot<K, V, F> {
     ///
     /// If the word changes meanwhile, nothing is done, and the entry counts as pinned.
     pub(super) fn look(&self, place: u32, cost: Cost) -> (Look, Option<Taken<'_, K, V, F>>)
+        requires slot { place_of self.now.spot.value ≡ place }
         ensures found { MatchOption result.1 (result.0 ≢ Look.Unused)
             (λ taken. (taken.place ≡ place) × (result.0 ≡ Look.Unused)) }
-        ensures book { IfSome result.1 (λ taken. taken.claimed ≡ self.now.track.word.book) }
+        ensures book { IfSome result.1
+            (λ taken. taken.claimed.book ≡ self.now.track.word.book) }
     {
         let seen = self.cell.load();
         if !is_idle(seen) {
@@ -417,8 +439,9 @@ impl<K: Eq + Drop, V: Drop, F: Fit<K, V>> Slot<K, V, F> {
 
     /// Takes out the entry, whatever its chances, if nobody has pinned it.
     pub(super) fn take_idle(&self, place: u32) -> Option<Taken<'_, K, V, F>>
+        requires slot { place_of self.now.spot.value ≡ place }
         ensures place { IfSome result (λ taken. taken.place ≡ place) }
-        ensures book { IfSome result (λ taken. taken.claimed ≡ self.now.track.word.book) }
+        ensures book { IfSome result (λ taken. taken.claimed.book ≡ self.now.track.word.book) }
     {
         let seen = self.cell.load();
         if is_idle(seen) {
@@ -430,8 +453,9 @@ impl<K: Eq + Drop, V: Drop, F: Fit<K, V>> Slot<K, V, F> {
 
     /// Takes out the entry if it was invalidated and nobody has pinned it.
     pub(super) fn take_invalidated(&self, place: u32) -> Option<Taken<'_, K, V, F>>
+        requires slot { place_of self.now.spot.value ≡ place }
         ensures place { IfSome result (λ taken. taken.place ≡ place) }
-        ensures book { IfSome result (λ taken. taken.claimed ≡ self.now.track.word.book) }
+        ensures book { IfSome result (λ taken. taken.claimed.book ≡ self.now.track.word.book) }
     {
         let seen = self.cell.load();
         if state_of(seen) == MARKED && is_idle(seen) {
@@ -445,8 +469,9 @@ impl<K: Eq + Drop, V: Drop, F: Fit<K, V>> Slot<K, V, F> {
     fn take_at(&self, place: u32, seen: u64) -> Option<Taken<'_, K, V, F>>
         requires turn { IsTurn seen 3 }
         requires unheld { seen < 17179869184 }
+        requires slot { place_of self.now.spot.value ≡ place }
         ensures place { IfSome result (λ taken. taken.place ≡ place) }
-        ensures book { IfSome result (λ taken. taken.claimed ≡ self.now.track.word.book) }
+        ensures book { IfSome result (λ taken. taken.claimed.book ≡ self.now.track.word.book) }
     {
         let (claim, recorded) = self.hide(seen, TAKEN)?;
         Some(Taken {

@@ -12,7 +12,8 @@ use lru_slot::{Claim, FREE, MARKED, ONE_READER, PRESENT};
 use std::marker::Model;
 
 /// A debt: a slot that its holder alone may read and write, with the entry that is about to leave,
-/// if there is one. `fill` or `free` takes it. Clauses see the book of the slot's history.
+/// if there is one. `fill` or `free` takes it. Clauses see the slot's place and the book of its
+/// history.
 pub struct Claimed<'a, K: Eq, V, F: Fit<K, V>> {
     pub(super) slot: &'a Slot<K, V, F>,
     pub(super) claim: Claim<'a, Content<K, V, F>>,
@@ -22,22 +23,27 @@ pub struct Claimed<'a, K: Eq, V, F: Fit<K, V>> {
 
 impl<'a, K: Eq, V, F: Fit<K, V>> Model for Claimed<'a, K, V, F> {
     ghost use Rattle.std.specs.Prelude.{◌≡◌, IfSome};
-    ghost use Rattle.logbook.specs.Pages.{Book};
+    ghost use Rattle.lru_clock.specs.Pins.{ClaimedOf};
+    ghost use Rattle.lru_clock.specs.Places.{place_of};
 
-    ghost Value = { Book };
+    ghost Value = { ClaimedOf };
 
-    ghost view = { λ c. c.slot.now.track.word.book };
+    ghost view = { λ c. record {
+      place = place_of c.slot.now.spot.value;
+      book = c.slot.now.track.word.book;
+    } };
 
     ghost invariant = { λ c. (c.claim.right ≡ 2)
         × (c.claim.tag ≡ c.slot.now.track.word)
         × IfSome c.recorded (λ r. r ≡ c.slot.now.track.word) };
 }
 
-/// A debt: an entry that was taken out, and whose charge still counts. `Seats::vacate` takes it. So
-/// no charge goes on counting after its entry was removed.
+/// A debt: an entry that was taken out of the slot at a place, and whose charge still counts.
+/// `Seats::vacate` takes it. So no charge goes on counting after its entry was removed.
 pub struct Taken<'a, K: Eq, V, F: Fit<K, V>> {
     pub(in crate::store) place: u32,
     pub(in crate::store) claimed: Claimed<'a, K, V, F>,
+    pub ghost at: { claimed.place ≡ place },
 }
 
 impl<'a, K: Eq, V, F: Fit<K, V>> Taken<'a, K, V, F> {
@@ -71,14 +77,15 @@ impl<'a, K: Eq + Drop, V: Drop, F: Fit<K, V>> Claimed<'a, K, V, F> {
         requires fits { F.fits kept.key kept.value }
         requires asked { F.fits key.now kept.value }
         requires equal { K.eq kept.key key.now ≡ true }
-        requires book { seen.now.book ≡ self }
+        requires book { seen.now.book ≡ self.book }
         requires drawn { number ≤ turns 1 seen.now.log }
         requires begun { ticket ≤ number }
+        ensures place { IfOk result.0 (λ p. p.place ≡ self.entry.place) }
         ensures pin { IfOk result.0 (λ p. (p.key ≡ key.now) × F.fits key.now p.value) }
         ensures value { IfOk result.0 (λ p. p.value ≡ kept.value) }
         ensures stored { IfOk result.0 (λ p. p.stored ≡ charge.value) }
         ensures ticket { IfOk result.0 (λ p. ComesLast ticket p.value p.log) }
-        ensures book { IfOk result.0 (λ p. p.book ≡ self.entry) }
+        ensures book { IfOk result.0 (λ p. p.book ≡ self.entry.book) }
     {
         let Self {
             slot,

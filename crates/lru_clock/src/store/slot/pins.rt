@@ -2,6 +2,7 @@
 ghost use Rattle.std.specs.Prelude.{◌≡◌, ◌<◌, IfErr, IfOk, IfSome, IsTrue};
 ghost use Rattle.lru_clock.specs.Contents.{HasValue};
 ghost use Rattle.lru_clock.specs.Hits.{HasArrived, Sees};
+ghost use Rattle.lru_clock.specs.Places.{place_of};
 
 use crate::history::{Log, Past};
 use crate::store::slot::content::Content;
@@ -45,6 +46,8 @@ impl<'a, K: Eq, V, F: Fit<K, V>> Pin<'a, K, V, F> {
         requires book { IfSome past.now (λ p. p.book ≡ slot.now.track.word.book) }
         ensures pin { IfOk result (λ found. IfSome found
             (λ p. (p.key ≡ key.now) × F.fits key.now p.value)) }
+        ensures place { IfOk result (λ found. IfSome found
+            (λ p. p.place ≡ place_of slot.now.spot.value)) }
         ensures book { IfOk result (λ found. IfSome found
             (λ p. p.book ≡ slot.now.track.word.book)) }
         ensures since { IfSome past.now (λ past. IfOk result (λ found. IfSome found
@@ -99,6 +102,7 @@ impl<'a, K: Eq, V, F: Fit<K, V>> Pin<'a, K, V, F> {
     /// Returns `Overflow` if the entry has the maximum number of pins.
     pub fn again(&self, most_pins: u64) -> Result<Self, Refusal>
         requires limit { most_pins < 1073741823 }
+        ensures place { IfOk result (λ p. p.place ≡ self.now.place) }
         ensures key { IfOk result (λ p. p.key ≡ self.now.key) }
         ensures value { IfOk result (λ p. p.value ≡ self.now.value) }
         ensures stored { IfOk result (λ p. p.stored ≡ self.now.stored) }

@@ -10,7 +10,7 @@ use Rattle.lru_clock.proofs.clock_core.Core.put.Goals as goal
 
 pub returns-in-Ok-fill-clause-order : goal.returns-in-Ok-fill-clause-order
 returns-in-Ok-fill-clause-order g c =
-    let place = c.in-Ok-fill.place in
+    let place = c.in-Ok-fill.found.place in
     let wide = c.reserve_seat.new.state.order in
     let listed = c.list.new.state in
     let capacity : listed.capacity ≡ c.args.state.now.capacity = ap (λ s. s.capacity) c.list.ensures.same ∙ c.reserve_seat.ensures.capacity in
