@@ -17,7 +17,7 @@ use Rattle.lru_clock.specs.declared.history.Entry.{Entry}
 use Rattle.lru_clock.specs.History.{turns, of_place, entry_after, entry_at, entry, coming}
 use Rattle.lru_clock.specs.History.{ComesTo, HasCome}
 use Rattle.lru_clock.specs.Arrivals.{Arrives}
-use Rattle.lru_clock.specs.declared.history.Arrival.{Arrival}
+use Rattle.lru_clock.specs.declared.history.past.Arrival.{Arrival}
 use Rattle.lru_clock.specs.Books.{EachAt, numbers}
 use Rattle.lru_clock.specs.Shards.{IsShardOf}
 use Rattle.lru_clock.specs.Hits.{HasArrived, Sees}

@@ -3,7 +3,7 @@ use Rattle.std.specs.Prelude.{◌≡◌, ℕ, ◌+◌, ◌<◌, ◌≤◌, List,
 use Rattle.logbook.specs.Pages.{Named}
 use Rattle.lru_clock.specs.declared.history.Entry.{Entry}
 use Rattle.lru_clock.specs.declared.history.Event.{Event}
-use Rattle.lru_clock.specs.declared.history.Arrival.{Arrival}
+use Rattle.lru_clock.specs.declared.history.past.Arrival.{Arrival}
 use Rattle.lru_clock.specs.History.{turns, coming}
 
 -- the arrival of an entry, whose making was of this age, at the slot of a counter: its number was

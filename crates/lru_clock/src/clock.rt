@@ -18,7 +18,7 @@ mod sums;
 pub use crate::clock::maker::{Begun, Maker};
 pub use crate::clock_core::Invalidated;
 pub use crate::handle::CacheHandle;
-pub use crate::history::Past;
+pub use crate::history::past::Past;
 use crate::shard::Shard;
 pub use crate::shard_state::Counts;
 use crate::store::MOST_PINS;

@@ -2,7 +2,8 @@
 ghost use Rattle.std.specs.Prelude.{◌≡◌, ◌≢◌, [], false, IfErr, IfOk, MatchBool, MatchOption};
 ghost use Rattle.std.specs.List.{list_any};
 ghost use Rattle.lru_clock.specs.History.{turns};
-ghost use Rattle.lru_clock.specs.Makings.{has_number, is_numbered, is_of, Ends, IsAt, IsWith, Marks};
+ghost use Rattle.lru_clock.specs.Makings.{has_number, is_numbered, is_of};
+ghost use Rattle.lru_clock.specs.Makings.{Ends, IsAt, IsWith, Marks};
 
 use crate::history::Log;
 use concurrent_lru::sharded::Refusal;

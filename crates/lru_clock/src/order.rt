@@ -257,7 +257,8 @@ impl Order {
     // Moves the border since an entry returns that had left a part, as its ghost says.
     fn move_border(&mut self, part: Part, charge: u64, capacity: u64)
         requires { 0 < ghosts_of part self.old.ghosts }
-        ensures { self.new ≡ record self.old { border = moved_border part charge capacity self.old } }
+        ensures { self.new
+            ≡ record self.old { border = moved_border part charge capacity self.old } }
     {
         let of_trial = self.ghosts.count(Part::Trial);
         let of_main = self.ghosts.count(Part::Main);

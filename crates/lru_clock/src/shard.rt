@@ -9,7 +9,7 @@ mod changes;
 mod looks;
 
 use crate::clock_core::Core;
-use crate::history::Past;
+use crate::history::past::Past;
 use crate::makings::Ticket;
 use crate::shard_state::ShardState;
 use crate::store::{Left, Looks, PinAt};

@@ -20,7 +20,8 @@ mod seat;
 mod seats;
 mod slot;
 
-use crate::history::{Chronicle, Log, Past};
+use crate::history::past::Past;
+use crate::history::{Chronicle, Log};
 use crate::index::Index;
 use crate::order::{Cost, Look, Looked, Order};
 pub use crate::store::looks::Looks;

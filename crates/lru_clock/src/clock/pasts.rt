@@ -5,7 +5,7 @@ ghost use Rattle.lru_clock.specs.Hits.{HasArrived, IsFresh};
 ghost use Rattle.lru_clock.specs.Shards.{IsBookOf, IsEvidenceOf};
 
 use crate::clock::{Cache, CacheHandle, Invalidated};
-use crate::history::Past;
+use crate::history::past::Past;
 use concurrent_lru::fit::Fit;
 use concurrent_lru::sharded::Refusal;
 use std::hash::{BuildHasher, Hash};

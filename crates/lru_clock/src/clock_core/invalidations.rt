@@ -6,7 +6,8 @@ ghost use Rattle.lru_clock.specs.Makings.{is_of};
 ghost use Rattle.lru_clock.specs.Seats.{LacksKey};
 
 use crate::clock_core::Core;
-use crate::history::{Log, Past};
+use crate::history::Log;
+use crate::history::past::Past;
 use crate::shard_state::ShardState;
 use crate::store::Left;
 use concurrent_lru::fit::Fit;

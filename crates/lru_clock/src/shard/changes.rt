@@ -5,7 +5,7 @@ ghost use mathlib.Core.List.{IsPrefix};
 ghost use Rattle.lru_clock.specs.Hits.{ComesLast};
 
 use crate::clock_core::Invalidated;
-use crate::history::Past;
+use crate::history::past::Past;
 use crate::makings::{Ended, Ticket};
 use crate::shard::Shard;
 use crate::store::{Looks, PinAt};

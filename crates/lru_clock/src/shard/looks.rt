@@ -4,7 +4,7 @@ ghost use Rattle.std.specs.Prelude.{◌≡◌, ◌≢◌, ◌<◌, IfErr, IfOk, 
 ghost use Rattle.lru_clock.specs.Hits.{Sees};
 ghost use Rattle.lru_clock.specs.Turns.{IfHit};
 
-use crate::history::Past;
+use crate::history::past::Past;
 use crate::shard::{Shard, Turn};
 use crate::shard_state::{Counts, Numbers, ShardState};
 use crate::store::PinAt;

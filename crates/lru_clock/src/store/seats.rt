@@ -1,6 +1,7 @@
 //! What a shard knows, under its lock, about each of its slots, and the words of the index.
 ghost use Rattle.std.specs.Prelude.{◌≡◌, ◌+◌, ◌<◌, ℕ, [], sum_by, true, false};
-ghost use Rattle.std.specs.Prelude.{IfOk, IfSome, IsTrue, MatchBool, MatchOption, MatchResult, None};
+ghost use Rattle.std.specs.Prelude.{IfOk, IfSome, IsTrue, None};
+ghost use Rattle.std.specs.Prelude.{MatchBool, MatchOption, MatchResult};
 ghost use Rattle.std.specs.Prelude.{length, replicate, List, Some, IfNone};
 ghost use Rattle.std.proofs.Math.ListN.{set};
 ghost use Rattle.lru_clock.specs.Index.{IsSize};

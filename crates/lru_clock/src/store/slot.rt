@@ -45,7 +45,9 @@ mod content;
 mod holds;
 mod pins;
 
-use crate::history::{Chronicle, Log, Past, Recorded, Track};
+use crate::history::past::Past;
+use crate::history::track::{Recorded, Track};
+use crate::history::{Chronicle, Log};
 use crate::order::{Cost, Look};
 pub use crate::store::slot::claimed::{Claimed, Taken};
 use crate::store::slot::content::Content;

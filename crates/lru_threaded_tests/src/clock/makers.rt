@@ -7,9 +7,9 @@ use lru_clock::clock::{Begun, Refusal};
 use std::alloc::Global;
 use std::sync::Wait;
 
-// What is told of a making: whether `try_begin` said meanwhile that the value is being made, whether
-// a `find` found it meanwhile, the value that its maker got, what a `begin` found afterwards, and
-// the total.
+// What is told of a making: whether `try_begin` said meanwhile that the value is being made,
+// whether a `find` found it meanwhile, the value that its maker got, what a `begin` found
+// afterwards, and the total.
 type Told = (bool, bool, u64, Option<u64>, u128);
 
 // Begins the making of a key, with the charge 2, and ends it with the value 7, perhaps with the

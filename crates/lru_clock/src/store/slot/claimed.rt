@@ -3,7 +3,8 @@ ghost use Rattle.std.specs.Prelude.{◌≡◌, ◌≤◌, true, IfOk};
 ghost use Rattle.lru_clock.specs.History.{turns};
 ghost use Rattle.lru_clock.specs.Hits.{ComesLast};
 
-use crate::history::{Log, Recorded};
+use crate::history::Log;
+use crate::history::track::Recorded;
 use crate::store::slot::content::Content;
 use crate::store::slot::{Kept, Pin, Slot};
 use concurrent_lru::fit::Fit;

@@ -3,7 +3,9 @@ ghost use Rattle.std.specs.Prelude.{◌≡◌, IfSome};
 ghost use Rattle.lru_clock.specs.Contents.{IsContentOf, IsOfValue};
 ghost use Rattle.lru_clock.specs.Hits.{HasArrived, Sees};
 
-use crate::history::{Arrival, Count, Log, Past, Track};
+use crate::history::past::{Arrival, Past};
+use crate::history::track::Track;
+use crate::history::{Count, Log};
 use crate::store::slot::Kept;
 use concurrent_lru::fit::Fit;
 use concurrent_lru::shown::Shown;

@@ -4,7 +4,8 @@ ghost use Rattle.lru_clock.specs.Contents.{HasValue};
 ghost use Rattle.lru_clock.specs.Hits.{HasArrived, Sees};
 ghost use Rattle.lru_clock.specs.Places.{place_of};
 
-use crate::history::{Log, Past};
+use crate::history::Log;
+use crate::history::past::Past;
 use crate::store::slot::content::Content;
 use crate::store::slot::{Pin, Released, Slot, pins_of, state_of};
 use concurrent_lru::fit::Fit;

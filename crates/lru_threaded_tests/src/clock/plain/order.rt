@@ -1,5 +1,5 @@
-//! The order in which the entries of the plain clock leave it: on trial first, then by the hand, and
-//! what their ghosts change.
+//! The order in which the entries of the plain clock leave it: on trial first, then by the hand,
+//! and what their ghosts change.
 
 use crate::clock::plain::{Entry, Ghost, Plain};
 use std::alloc::AllocError;

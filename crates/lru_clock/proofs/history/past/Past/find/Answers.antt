@@ -2,7 +2,7 @@ use Rattle.std.proofs.Common.{◌≡◌, ◌<◌, ap, sym, subst, arith}
 use mathlib.Core.List.{IsPrefix}
 use Rattle.lru_clock.specs.History.{turns, HasCome}
 use Rattle.lru_clock.proofs.Pasts.{has_come, prefix_trans}
-use Rattle.lru_clock.proofs.history.Past.find.Goals as goal
+use Rattle.lru_clock.proofs.history.past.Past.find.Goals as goal
 
 -- All histories begin one.
 pub returns-clause-came : goal.returns-clause-came

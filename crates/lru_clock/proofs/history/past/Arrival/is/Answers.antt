@@ -2,7 +2,7 @@ use Rattle.std.proofs.Common.{ap, sym}
 use Rattle.std.proofs.lemmas.Map.Views.{exact_unsigned_eq}
 use mathlib.Core.List.{IsPrefix}
 use Rattle.lru_clock.proofs.Pasts.{one_arrival}
-use Rattle.lru_clock.proofs.history.Arrival.is.Goals as goal
+use Rattle.lru_clock.proofs.history.past.Arrival.is.Goals as goal
 
 -- Both begin one history.
 pub returns : goal.returns

@@ -1,6 +1,6 @@
 use Rattle.std.proofs.Common.{ap, ◌∙◌}
 use Rattle.lru_clock.proofs.Pasts.{looks_moves, still_begun}
-use Rattle.lru_clock.proofs.history.Track.look.Goals as goal
+use Rattle.lru_clock.proofs.history.track.Track.look.Goals as goal
 
 pub load-found-requires : goal.load-found-requires
 load-found-requires g c =

@@ -2,7 +2,7 @@
 use Rattle.std.proofs.Common.{◌≡◌, ◌++◌, None, ap, sym, subst, ◌∙◌}
 use Rattle.lru_clock.specs.History.{entry_at}
 use Rattle.lru_clock.proofs.Pasts.{comes}
-use Rattle.lru_clock.proofs.history.Track.leave.Goals as goal
+use Rattle.lru_clock.proofs.history.track.Track.leave.Goals as goal
 
 pub end-requires-clause-gone : goal.end-requires-clause-gone
 end-requires-clause-gone g c =

@@ -1,6 +1,6 @@
 use Rattle.std.proofs.Common.{◌∙◌}
 use Rattle.lru_clock.proofs.Pasts.{adds_moves}
-use Rattle.lru_clock.proofs.history.Track.add.Goals as goal
+use Rattle.lru_clock.proofs.history.track.Track.add.Goals as goal
 
 pub compare_exchange-found-requires : goal.compare_exchange-found-requires
 compare_exchange-found-requires g c =
