@@ -14,7 +14,7 @@ use crate::code;
 use crate::words::key::Words;
 use concurrent_lru::fit::Anything;
 use concurrent_lru::sharded::Refusal;
-use lru_clock::clock_core::{Begun, Left, Looks, MOST_PINS, ShardState};
+use lru_clock::clock_core::{Begun, Left, Looks, MOST_PINS, PinAt, ShardState};
 use std::alloc::{AllocError, Global};
 use std::sync::Arc;
 
@@ -198,7 +198,7 @@ impl Clock {
             .entries
             .replace(&mut self.state, tag, key, charge, kept, key_copy);
         match stored {
-            Ok((place, pin)) => {
+            Ok(PinAt { place, pin }) => {
                 // Never refused: nobody else has held the new entry.
                 let _ = self.entries.hold_at(place);
                 let _ = pin.release();
