@@ -7,7 +7,6 @@
 ghost use Rattle.std.specs.Prelude.{◌≡◌};
 ghost use Rattle.lru_c.specs.Clocks.{tag_of as tag};
 
-pub mod above;
 pub mod calls;
 pub mod handles;
 pub mod locked;

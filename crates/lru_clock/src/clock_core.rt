@@ -19,6 +19,7 @@ mod replacements;
 
 pub use crate::clock_core::invalidations::Invalidated;
 pub use crate::clock_core::makings::Begun;
+pub use crate::excess::ExcessFlag;
 use crate::history::past::Past;
 pub use crate::shard_state::ShardState;
 pub use crate::store::{Left, Looks, MOST_PINS, PinAt, Released};

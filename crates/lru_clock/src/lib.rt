@@ -16,6 +16,7 @@
 
 pub mod clock;
 pub mod clock_core;
+mod excess;
 mod handle;
 mod history;
 mod index;

@@ -9,6 +9,7 @@ mod changes;
 mod looks;
 
 use crate::clock_core::Core;
+use crate::excess::ExcessFlag;
 use crate::history::past::Past;
 use crate::makings::Ticket;
 use crate::shard_state::ShardState;
@@ -25,8 +26,7 @@ use std::sync::{Condvar, Mutex, MutexGuard, Wait};
 #[derive(Drop)]
 pub struct Shard<K: Hash + Eq + Clone, V, F: Fit<K, V>> {
     pub core: Core<K, V, F>,
-    // Whether the total was above the capacity when the lock was last released.
-    is_above: AtomicBool,
+    excess: ExcessFlag,
     // Whether a caller that wanted to evict found the lock taken, and left that to its holder.
     is_owed: AtomicBool,
     state: CachePadded<Mutex<ShardState<K>>>,
@@ -53,7 +53,7 @@ impl<K: Hash + Eq + Clone + Drop, V: Drop, F: Fit<K, V>> Shard<K, V, F> {
         let (core, state) = Core::new(alloc, capacity, most_pins)?;
         Ok(Shard {
             core,
-            is_above: AtomicBool::new(false),
+            excess: ExcessFlag::new(),
             is_owed: AtomicBool::new(false),
             state: CachePadded::new(Mutex::new(state)),
             made: CachePadded::new(Condvar::new()),
@@ -84,23 +84,19 @@ impl<K: Hash + Eq + Clone + Drop, V: Drop, F: Fit<K, V>> Shard<K, V, F> {
     }
 
     // Releases the lock, and then drops the entry that was removed under it. Returns whether more
-    // entries may have to be evicted: a handle evicts nothing if it was dropped before `is_above`
-    // was set, or while another caller had the lock.
+    // entries may have to be evicted: a handle evicts nothing if it was dropped before `excess` was
+    // set, or while another caller had the lock.
     fn close<'a>(
         &'a self,
         guard: MutexGuard<'a, ShardState<K>>,
         left: Option<Left<'a, K, V, F>>,
     ) -> bool {
-        let is_above = guard.is_above(0);
-        let was_above = self.is_above.load(SeqCst);
-        if was_above != is_above {
-            self.is_above.store(is_above, SeqCst);
-        }
+        let has_risen = self.excess.update(&guard);
         match left {
             Some(left) => left.open(guard),
             None => drop(guard),
         }
-        (is_above && !was_above) || self.is_owed.load(SeqCst)
+        has_risen || self.is_owed.load(SeqCst)
     }
 
     /// Evicts down to the capacity. If another caller has the lock, leaves that to it.
@@ -123,7 +119,7 @@ impl<K: Hash + Eq + Clone + Drop, V: Drop, F: Fit<K, V>> Shard<K, V, F> {
     /// Evicts down to the capacity, if the total was above it when the lock was last released.
     #[inline(always)]
     pub fn settle_if_above(&self) {
-        if self.is_above.load(SeqCst) {
+        if self.excess.is_set() {
             self.settle();
         }
     }

@@ -6,7 +6,6 @@ ghost use Rattle.lru_c.specs.Clocks.{Fails, IsLookup, LeavesAny, LeavesAt, Leave
 ghost use Rattle.lru_c.specs.Clocks.{ReleasesAt, Reserves, Stores, StoresOver, WritesLeft};
 ghost use Rattle.lru_c.specs.Codes as codes;
 
-use crate::clock::above::Above;
 use crate::clock::reader::{Reader, told_of_lookup};
 use crate::clock::told::{LruClockCounts, LruFound, LruLeft};
 use crate::clock::{Entries, tag_of};
@@ -14,7 +13,7 @@ use crate::code;
 use crate::words::key::Words;
 use concurrent_lru::fit::Anything;
 use concurrent_lru::sharded::Refusal;
-use lru_clock::clock_core::{Begun, Left, Looks, MOST_PINS, PinAt, ShardState};
+use lru_clock::clock_core::{Begun, ExcessFlag, Left, Looks, MOST_PINS, PinAt, ShardState};
 use std::alloc::{AllocError, Global};
 use std::sync::Arc;
 
@@ -22,7 +21,7 @@ use std::sync::Arc;
 #[derive(Drop)]
 pub struct Clock {
     entries: Arc<Entries>,
-    above: Arc<Above>,
+    excess: Arc<ExcessFlag>,
     pub state: ShardState<Words>,
 }
 
@@ -47,10 +46,10 @@ impl Clock {
         let Ok(entries) = Arc::new(alloc, entries) else {
             return Err(AllocError);
         };
-        match Arc::new(alloc, Above::new()) {
-            Ok(above) => Ok(Clock {
+        match Arc::new(alloc, ExcessFlag::new()) {
+            Ok(excess) => Ok(Clock {
                 entries,
-                above,
+                excess,
                 state,
             }),
             Err(_) => Err(AllocError),
@@ -60,13 +59,13 @@ impl Clock {
     // Returns a reader of the entries.
     pub(crate) fn reader(&self) -> Result<Reader, AllocError> {
         let entries = Arc::try_clone(&self.entries)?;
-        let above = Arc::try_clone(&self.above)?;
-        Ok(Reader::of(entries, above))
+        let excess = Arc::try_clone(&self.excess)?;
+        Ok(Reader::of(entries, excess))
     }
 
     // Tells the readers whether the total is above the capacity, after a change of either.
     fn tell_readers(&self) {
-        self.above.set(self.state.is_above(0));
+        self.excess.update(&self.state);
     }
 
     // Evicts one entry if another charge would take the total above the capacity.

@@ -2,25 +2,24 @@
 ghost use Rattle.std.specs.Prelude.{◌≡◌};
 ghost use Rattle.lru_c.specs.Clocks.{IsLookup, IsRelease};
 
-use crate::clock::above::Above;
 use crate::clock::told::LruFound;
 use crate::clock::{Entries, tag_of};
 use crate::code;
 use crate::words::key::Words;
 use concurrent_lru::sharded::Refusal;
-use lru_clock::clock_core::Released;
+use lru_clock::clock_core::{ExcessFlag, Released};
 use std::sync::Arc;
 
 /// A thread's access to the entries of a shard.
 #[derive(Drop)]
 pub struct Reader {
     entries: Arc<Entries>,
-    above: Arc<Above>,
+    excess: Arc<ExcessFlag>,
 }
 
 impl Reader {
-    pub(crate) fn of(entries: Arc<Entries>, above: Arc<Above>) -> Reader {
-        Reader { entries, above }
+    pub(crate) fn of(entries: Arc<Entries>, excess: Arc<ExcessFlag>) -> Reader {
+        Reader { entries, excess }
     }
 
     // Pins the entry of a key.
@@ -51,7 +50,7 @@ impl Reader {
         match self.entries.end_hold(place) {
             Some(Released::Pinned) => code::DONE,
             Some(Released::Idle) => {
-                if self.above.get() {
+                if self.excess.is_set() {
                     code::ABOVE
                 } else {
                     code::DONE
