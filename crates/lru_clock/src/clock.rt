@@ -350,13 +350,14 @@ impl<K: Hash + Eq + Clone + Drop, V: Drop, R: Wait, S: BuildHasher, F: Fit<K, V>
     /// key's shard. Takes no memory.
     ///
     /// Pinned entries stay and count, so a new entry may take the total above the capacity. While
-    /// the limit is strict, `get_or_init` and the calls named after it, and `insert`, return `Full`
-    /// instead, if the charge of a new entry exceeds the capacity together with the charges of the
-    /// pinned entries. Then nothing is stored, and nothing is evicted unless other callers pin
-    /// entries during the call. A making is refused before its value is made, and, as its charge
-    /// counts only once it is stored, perhaps also after that. A call that finds an entry adds no
-    /// charge, and is never refused in this way. A total that is above the capacity when the limit
-    /// becomes strict only falls until it is no longer.
+    /// the limit is strict, `get_or_init` and the calls named after it, `begin`, `try_begin`, the
+    /// calls that end a making with a value, and `insert` return `Full` instead, if the charge of a
+    /// new entry exceeds the capacity together with the charges of the pinned entries. Then nothing
+    /// is stored, and nothing is evicted unless other callers pin entries during the call. A making
+    /// is refused before its value is made, and, as its charge counts only once it is stored,
+    /// perhaps also after that. A call that finds an entry adds no charge, and is never refused in
+    /// this way. A total that is above the capacity when the limit becomes strict only falls until
+    /// it is no longer.
     ///
     /// A strict limit costs time where many entries are pinned: a call that adds an entry to a full
     /// shard visits slots until enough of the entries there are idle.

@@ -25,7 +25,7 @@ use crossbeam_utils::CachePadded;
 use logbook::{Gain, Offer, Plain, Play, Rule, Seen, Start, Word};
 use std::marker::Model;
 
-// No counter is raised once it has reached this. At a billion entries a second that takes 70 years.
+// No counter is raised once it has reached this. At a billion entries a second that takes decades.
 const MOST_NUMBERS: u64 = 0x4000_0000_0000_0000;
 
 /// An entry, as the history records it. It exists only in clauses.

@@ -7,11 +7,12 @@
 //! the lock of a shard.
 //!
 //! After a caller invalidates a key with a `Past`, it finds with that past only values whose making
-//! began later. That is proved by a history of each shard, which exists only in proofs and records
-//! when each making began and when each entry was stored.
+//! began later. What is proved of it is by a history of each shard, which exists only in proofs and
+//! records when each making began and when each entry was stored: what is found was made by a
+//! making that began after all that the past had seen at the invalidation.
 //!
-//! The caches of `concurrent_lru` evict in exact LRU order. This one has the same calls, marks and
-//! errors.
+//! The caches of `concurrent_lru` evict in exact LRU order. This one has most of their calls, and
+//! the same marks and errors.
 #![tactic(auto)]
 
 pub mod clock;

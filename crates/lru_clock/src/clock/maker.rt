@@ -55,8 +55,9 @@ impl<'a, K: Hash + Eq + Clone + Drop, V: Drop, R: Wait, F: Fit<K, V>> Maker<'a, 
     /// Makes `value` the key's value, which those that wait for it get too, and returns a handle of
     /// it. If the key was invalidated meanwhile, only this caller gets the value.
     ///
-    /// Returns `Overflow` if the charge would take the shard's total past `u64::MAX`, and `Memory`
-    /// if a slot is refused. The making has failed then, and the value is dropped.
+    /// Returns `Overflow` if the charge would take the shard's total past `u64::MAX`, `Full` if the
+    /// limit is strict and others have taken the room meanwhile, and `Memory` if a copy of the key
+    /// or a slot is refused. The making has failed then, and the value is dropped.
     pub fn ready(self, value: V) -> Result<CacheHandle<'a, K, V, R, F>, Refusal>
         requires fits { F.fits self.key value }
         ensures key { IfOk result (λ h. h.key ≡ self.entry.key) }
@@ -73,7 +74,7 @@ impl<'a, K: Hash + Eq + Clone + Drop, V: Drop, R: Wait, F: Fit<K, V>> Maker<'a, 
 
     /// `ready` with another charge than that with which the making was begun.
     ///
-    /// Returns `Overflow` and `Memory` as `ready` does.
+    /// Returns `Overflow`, `Full` and `Memory` as `ready` does.
     pub fn ready_with(self, value: V, charge: u64) -> Result<CacheHandle<'a, K, V, R, F>, Refusal>
         requires charged { 0 < charge }
         requires fits { F.fits self.key value }
@@ -126,7 +127,8 @@ impl<K: Hash + Eq + Clone + Drop, V: Drop, R: Wait, S: BuildHasher, F: Fit<K, V>
     /// another.
     ///
     /// Returns `Overflow` if the entry has the maximum number of pins or the charge would take the
-    /// shard's total past `u64::MAX`, and `Memory` if a copy of the key is refused.
+    /// shard's total past `u64::MAX`, `Full` if the limit is strict (`set_strict_limit`) and leaves
+    /// no room for the charge, and `Memory` if there is none to record the making.
     pub fn begin(&self, key: K, charge: u64) -> Result<Begun<'_, K, V, R, F>, Refusal>
         requires charged { 0 < charge }
         ensures found { IfOk result (λ begun. IfReady begun
@@ -146,7 +148,7 @@ impl<K: Hash + Eq + Clone + Drop, V: Drop, R: Wait, S: BuildHasher, F: Fit<K, V>
 
     /// `begin`, but never waits: returns `None` if another caller is making the value.
     ///
-    /// Returns `Overflow` and `Memory` as `begin` does.
+    /// Returns `Overflow`, `Full` and `Memory` as `begin` does.
     pub fn try_begin(&self, key: K, charge: u64) -> Result<Option<Begun<'_, K, V, R, F>>, Refusal>
         requires charged { 0 < charge }
         ensures found { IfOk result (λ begun. IfSome begun (λ begun. IfReady begun

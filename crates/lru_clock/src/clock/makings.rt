@@ -27,8 +27,9 @@ impl<K: Hash + Eq + Clone + Drop, V: Drop, R: Wait, S: BuildHasher, F: Fit<K, V>
     ///
     /// Returns `Init` with the error that `init` returned, `Overflow` if the entry has the maximum
     /// number of pins or the charge would take the shard's total past `u64::MAX`, `Full` if the
-    /// limit is strict (`set_strict_limit`) and leaves no room for a new entry, and `Memory` if a
-    /// copy of the key or a slot is refused. A value that was already made is dropped.
+    /// limit is strict (`set_strict_limit`) and leaves no room for a new entry, and `Memory` if
+    /// there is none to record the making, or if a copy of the key or a slot is refused. A value
+    /// that was already made is dropped.
     #[inline(always)]
     pub fn get_or_try_init<E, I>(
         &self,

@@ -135,7 +135,7 @@ impl<K: Hash + Eq + Clone + Drop, V: Drop, F: Fit<K, V>> Shard<K, V, F> {
     ///
     /// Returns `Overflow` if the entry has the maximum number of pins, or if the charge would take
     /// the total past `u64::MAX`, `Full` if the limit is strict and has no room for the charge, and
-    /// `Memory` if a copy of the key is refused.
+    /// `Memory` if there is none to record the making.
     #[inline(never)]
     pub fn begin<R: Wait>(
         &self,
@@ -173,10 +173,18 @@ impl<K: Hash + Eq + Clone + Drop, V: Drop, F: Fit<K, V>> Shard<K, V, F> {
         ensures never_stale { IfErr result.1 (λ e. e ≢ Refusal.Stale) }
     {
         let mut guard = self.lock(rt);
+        let mut has_waited = false;
         for _ in rt.forever() {
             match self.take_turn(&mut guard, tag, key, charge) {
                 Ok(Some(turn)) => return (guard, Ok(turn)),
-                Ok(None) => guard = self.wait(rt, guard),
+                Ok(None) => {
+                    // The end of any making wakes all callers, so a call may wait more than once.
+                    if !has_waited {
+                        guard.counts.waits = guard.counts.waits.wrapping_add(1);
+                        has_waited = true;
+                    }
+                    guard = self.wait(rt, guard);
+                }
                 Err(refusal) => return (guard, Err(refusal)),
             }
         }
@@ -185,7 +193,7 @@ impl<K: Hash + Eq + Clone + Drop, V: Drop, F: Fit<K, V>> Shard<K, V, F> {
 
     /// `enter`, but never waits: returns `None` if another caller is making the value.
     ///
-    /// Returns `Overflow` and `Memory` as `begin` does.
+    /// Returns `Overflow`, `Full` and `Memory` as `begin` does.
     pub fn try_enter<R: Wait>(
         &self,
         rt: &R,
@@ -211,7 +219,7 @@ impl<K: Hash + Eq + Clone + Drop, V: Drop, F: Fit<K, V>> Shard<K, V, F> {
     // Pins the key's entry, or begins the making of its value. Returns `None` if another caller is
     // making it.
     //
-    // Returns `Overflow` and `Memory` as `begin` does.
+    // Returns `Overflow`, `Full` and `Memory` as `begin` does.
     fn take_turn(
         &self,
         state: &mut ShardState<K>,
@@ -241,7 +249,6 @@ impl<K: Hash + Eq + Clone + Drop, V: Drop, F: Fit<K, V>> Shard<K, V, F> {
         guard: MutexGuard<'a, ShardState<K>>,
     ) -> MutexGuard<'a, ShardState<K>> {
         let mut guard = guard;
-        guard.counts.waits = guard.counts.waits.wrapping_add(1);
         guard.makings.add_waiting();
         let mut guard = self.made.wait(rt, guard);
         guard.makings.remove_waiting();

@@ -1,10 +1,12 @@
-//! A caller that waits for a value of the clock, until the key is invalidated while it is made.
+//! A caller that waits for a value of the clock, until the key is invalidated while it is made, or
+//! while other values become ready.
 ghost use Rattle.std.specs.Prelude.{◌<◌};
 
-use crate::assertions::assert_equal_at;
+use crate::assertions::{assert_equal, assert_equal_at};
 use crate::caches::{Clock, clock_with_shards};
 use crate::clock::invalidations::invalidates;
 use crate::flags::{meets, pause, raise};
+use lru_clock::clock::Begun;
 use std::alloc::Global;
 use std::sync::Wait;
 use std::sync::atomic::AtomicU64;
@@ -103,4 +105,59 @@ fn who_waits_for_an_invalidated_value_waits_no_longer(rt: HostRuntime) {
         let seen = meet_in_new(&rt, rt.alloc(), &rt, told);
         assert_equal_at(&rt, seen, Some(((true, Some(5)), Some(value))), told);
     }
+}
+
+// How often `wakes_often` looks whether the other caller waits.
+const LOOKS: u32 = 1_000_000;
+
+// Makes key 1 as 5, and other keys while the other caller waits for key 1, which each of them wakes.
+// Returns how many calls are counted that waited.
+fn wakes_often<R: Wait>(cache: &Clock<u64, R>, started: &AtomicU64) -> Option<u64> {
+    let Begun::Make(maker) = cache.begin(1, 1).ok()? else {
+        return None;
+    };
+    raise(started);
+    for _ in 0..LOOKS {
+        if cache.counts().waits > 0 {
+            break;
+        }
+        thread::yield_now();
+    }
+    for key in 2..200 {
+        drop(cache.get_or_init(key, 1, |_| 0));
+        thread::yield_now();
+    }
+    let waits = cache.counts().waits;
+    drop(maker.ready(5));
+    Some(waits)
+}
+
+// Waits for key 1 while the other caller makes it.
+fn waits_once<R: Wait>(cache: &Clock<u64, R>, started: &AtomicU64) -> Option<u64> {
+    if !meets(started) {
+        return None;
+    }
+    Some(*cache.get_or_init(1, 1, |_| 6).ok()?)
+}
+
+// Returns what these two callers of a new clock of one shard tell.
+fn wakes_in_new<T: Threads, R: Wait + Drop + Send + Sync>(
+    rt: &T,
+    alloc: Global,
+    own: R,
+) -> Option<(Option<u64>, Option<u64>)> {
+    let cache: Clock<u64, R> = clock_with_shards(alloc, own, 10, 1)?;
+    let started = AtomicU64::new(0);
+    let (shared, flag) = (&cache, &started);
+    Some(thread::join(
+        rt,
+        move || wakes_often(shared, flag),
+        move || waits_once(shared, flag),
+    ))
+}
+
+#[test]
+fn a_call_that_is_woken_for_other_values_waited_once(rt: HostRuntime) {
+    let told = wakes_in_new(&rt, rt.alloc(), &rt);
+    assert_equal(&rt, told, Some((Some(1), Some(5))));
 }
