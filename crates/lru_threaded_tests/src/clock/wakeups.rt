@@ -110,7 +110,8 @@ fn who_waits_for_an_invalidated_value_waits_no_longer(rt: HostRuntime) {
 // How often `wakes_often` looks whether the other caller waits.
 const LOOKS: u32 = 1_000_000;
 
-// Makes key 1 as 5, and other keys while the other caller waits for key 1, which each of them wakes.
+// Makes key 1 as 5, and other keys while the other caller waits for key 1, which each of them
+// wakes.
 // Returns how many calls are counted that waited.
 fn wakes_often<R: Wait>(cache: &Clock<u64, R>, started: &AtomicU64) -> Option<u64> {
     let Begun::Make(maker) = cache.begin(1, 1).ok()? else {
