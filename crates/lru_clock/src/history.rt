@@ -5,14 +5,16 @@
 //! raises. The kit's `logbook` ties the counters of a shard to one history: whoever loads a counter
 //! learns a prefix of the history after which the counter has that value.
 //!
-//! The shard has another counter, from which each new entry draws a number greater than all earlier
-//! ones. The counter of the entry's slot is then raised to that number, so the entry is still in
-//! its slot as long as the slot's counter equals the number.
+//! The shard has another counter, from which numbers are drawn, each greater than all earlier ones.
+//! Each entry has one, to which the counter of its slot is raised when the entry comes: it is still
+//! in its slot as long as the slot's counter equals the number.
 //!
-//! The making of a value draws a number from the same counter when it begins: its ticket. So it
-//! began after some moment if the ticket is greater than the shard's counter was then. The ticket
-//! of a value that `insert` was given is the number of its entry.
-ghost use Rattle.std.specs.Prelude.{◌≡◌, IfSome};
+//! The making of a value draws a number when it begins: its ticket. So it began after some moment
+//! if the ticket is greater than the shard's counter was then. The ticket is also the number of the
+//! entry, unless the counter of its slot has passed the ticket meanwhile: then another number is
+//! drawn when the entry comes. The ticket of a value that `insert` was given is the number of its
+//! entry.
+ghost use Rattle.std.specs.Prelude.{◌≡◌, ◌≤◌, IfSome};
 ghost use Rattle.crossbeam_utils.specs.Padded.{padded_value};
 ghost use Rattle.lru_clock.specs.History.{turns, named};
 
@@ -169,6 +171,7 @@ impl<K, V> Plain<Coming<K, V>, Event<K, V>, u64> for EntryComes {
 
     ghost state = { λ x. None };
 }
+
 /// A history, the word by which slots are added to it, and the counter from which the numbers of
 /// entries are drawn.
 #[derive(Drop)]
@@ -204,6 +207,39 @@ impl<K, V> Chronicle<K, V> {
         ensures drawn { IfSome result (λ drawn. drawn.0 ≡ turns 1 drawn.1.log) }
     {
         self.numbers.draw(&self.first)
+    }
+
+    /// Returns the number and the ticket of an entry that comes to a slot whose counter has reached
+    /// `passed`, with a prefix of the history in which the number was drawn.
+    ///
+    /// The ticket of the making serves as the number too, unless the counter has passed it. Then,
+    /// and for an entry without a ticket, a number is drawn, which an entry without a ticket has as
+    /// its ticket too.
+    ///
+    /// Returns `None` as `draw` does.
+    pub fn number(&self, passed: u64, ticket: Option<u64>) -> Option<(u64, u64, Log<K, V>)>
+        ensures book { IfSome result (λ n. n.2.book ≡ self.now.first.book) }
+        ensures drawn { IfSome result (λ n. n.0 ≤ turns 1 n.2.log) }
+        ensures begun { IfSome result (λ n. n.1 ≤ n.0) }
+        ensures ticket { IfSome ticket (λ t. IfSome result (λ n. n.1 ≡ t)) }
+    {
+        let Some(ticket) = ticket else {
+            let (number, seen) = self.draw()?;
+            return Some((number, number, seen));
+        };
+        if passed < ticket {
+            let (last, seen) = self.numbers.look(&self.first);
+            if ticket <= last {
+                return Some((ticket, ticket, seen));
+            }
+        }
+        let (number, seen) = self.draw()?;
+        // Always so, since the ticket was drawn before.
+        if ticket <= number {
+            Some((number, ticket, seen))
+        } else {
+            None
+        }
     }
 
     /// Adds a slot without an entry to the history, and returns its track.

@@ -326,15 +326,6 @@ impl<K: Eq + Drop, V: Drop, F: Fit<K, V>> Store<K, V, F> {
             (λ filled. ComesLast t filled.pin.value filled.pin.log)) }
         ensures book { IfOk result (λ filled. filled.pin.book ≡ self.now.chronicle.first.book) }
     {
-        // Always `Some`, since nobody else draws a number without the lock.
-        let Some((number, seen)) = self.chronicle.draw() else {
-            return Err((reservation, kept));
-        };
-        let ticket = ticket.unwrap_or(number);
-        // Never so, since a ticket is drawn before.
-        if ticket > number {
-            return Err((reservation, kept));
-        }
         let place = reservation.place;
         let claimed = match Left::take_slot(left, place) {
             Some(claimed) => claimed,
@@ -344,7 +335,14 @@ impl<K: Eq + Drop, V: Drop, F: Fit<K, V>> Store<K, V, F> {
             },
         };
         let charge = reservation.charge.again();
-        let (stored, old) = claimed.fill(key, kept, charge, is_invalidated, number, ticket, &seen);
+        let (stored, old) = claimed.fill(
+            key,
+            kept,
+            charge,
+            is_invalidated,
+            ticket,
+            &self.chronicle,
+        );
         // A slot that was free had no old entry.
         if let (Some(left), Some(old)) = (left, old) {
             left.kept = Some(old);

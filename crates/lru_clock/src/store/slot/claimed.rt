@@ -1,9 +1,8 @@
 //! Slots that their holder alone may read and write.
-ghost use Rattle.std.specs.Prelude.{◌≡◌, ◌≤◌, true, IfOk};
-ghost use Rattle.lru_clock.specs.History.{turns};
+ghost use Rattle.std.specs.Prelude.{◌≡◌, true, IfOk, IfSome};
 ghost use Rattle.lru_clock.specs.Hits.{ComesLast};
 
-use crate::history::Log;
+use crate::history::Chronicle;
 use crate::history::track::Recorded;
 use crate::store::slot::content::Content;
 use crate::store::slot::{Kept, Pin, Slot};
@@ -59,7 +58,8 @@ impl<'a, K: Eq, V, F: Fit<K, V>> Taken<'a, K, V, F> {
 impl<'a, K: Eq + Drop, V: Drop, F: Fit<K, V>> Claimed<'a, K, V, F> {
     /// Stores an entry in the slot, and pins it. `charge` is the charge that counts for it. If the
     /// entry is already invalidated, it leaves the history at once, and nobody else can pin it.
-    /// Returns the pin, and the entry that has left.
+    /// The ticket is that of the making of the value, or `None` if the making begins with this
+    /// call. Returns the pin, and the entry that has left.
     ///
     /// If the new entry cannot be stored, returns it in place of the pin, and frees the slot.
     pub(in crate::store) fn fill(
@@ -68,9 +68,8 @@ impl<'a, K: Eq + Drop, V: Drop, F: Fit<K, V>> Claimed<'a, K, V, F> {
         kept: Kept<K, V, F>,
         charge: Shown<Option<u64>>,
         is_invalidated: bool,
-        number: u64,
-        ticket: u64,
-        seen: &Log<K, V>,
+        ticket: Option<u64>,
+        chronicle: &Chronicle<K, V>,
     ) -> (
         Result<Pin<'a, K, V, F>, Kept<K, V, F>>,
         Option<Kept<K, V, F>>,
@@ -78,14 +77,12 @@ impl<'a, K: Eq + Drop, V: Drop, F: Fit<K, V>> Claimed<'a, K, V, F> {
         requires fits { F.fits kept.key kept.value }
         requires asked { F.fits key.now kept.value }
         requires equal { K.eq kept.key key.now ≡ true }
-        requires book { seen.now.book ≡ self.book }
-        requires drawn { number ≤ turns 1 seen.now.log }
-        requires begun { ticket ≤ number }
+        requires book { chronicle.now.first.book ≡ self.book }
         ensures place { IfOk result.0 (λ p. p.place ≡ self.entry.place) }
         ensures pin { IfOk result.0 (λ p. (p.key ≡ key.now) × F.fits key.now p.value) }
         ensures value { IfOk result.0 (λ p. p.value ≡ kept.value) }
         ensures stored { IfOk result.0 (λ p. p.stored ≡ charge.value) }
-        ensures ticket { IfOk result.0 (λ p. ComesLast ticket p.value p.log) }
+        ensures ticket { IfSome ticket (λ t. IfOk result.0 (λ p. ComesLast t p.value p.log)) }
         ensures book { IfOk result.0 (λ p. p.book ≡ self.entry.book) }
     {
         let Self {
@@ -93,11 +90,21 @@ impl<'a, K: Eq + Drop, V: Drop, F: Fit<K, V>> Claimed<'a, K, V, F> {
             claim,
             recorded,
         } = self;
+        let (passed, _) = slot.track.look(&chronicle.first);
+        // Always `Some`, since nobody else draws a number without the lock.
+        let Some((number, ticket, seen)) = chronicle.number(passed, ticket) else {
+            let back = Claimed {
+                slot,
+                claim,
+                recorded,
+            };
+            return (Err(kept), back.free());
+        };
         // Always `Ok`, since nobody else changes the counter of a slot without the lock. The entry
         // that is about to leave, if there is one, leaves the history in the same step.
         let (arrival, age, recorded) = match slot
             .track
-            .come(number, ticket, seen, &kept.key, &kept.value, recorded)
+            .come(number, ticket, &seen, &kept.key, &kept.value, recorded)
         {
             Ok(came) => came,
             Err(recorded) => {
