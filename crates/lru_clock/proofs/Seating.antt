@@ -6,3 +6,4 @@ pub mod Copies
 pub mod Searches
 pub mod Keys
 pub mod Vacant
+pub mod Replaced

@@ -154,6 +154,10 @@ module _ {K : Type 0} where
   abbrev pub refuses : Bool → ℕ → List (Seat K) → ℕ → Bool
   refuses is_strict capacity seats charge = cond is_strict (is_above capacity seats charge) false
 
+  -- the total is within the capacity, if that is a strict limit
+  abbrev pub IsWithin : Bool → ℕ → List (Seat K) → Type 0
+  IsWithin is_strict capacity seats = MatchBool is_strict (sum_by (λ seat. seat.charge) seats ≤ capacity) ⊤
+
   -- room was made if there has to be some, and else nothing changed
   abbrev pub MakesRoom : {X : Type 0} → Bool → List (Seat K) → List (Seat K) → OrderOf → OrderOf → List Looked → List Looked → Option X → Type 0
   MakesRoom is_above seats new_seats order new_order looks new_looks leaver =

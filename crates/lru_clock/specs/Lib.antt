@@ -7,6 +7,7 @@ pub mod Looks
 pub mod Evictions
 pub mod Pins
 pub mod Turns
+pub mod Ways
 pub mod Makings
 pub mod Begun
 pub mod Makers

@@ -1,5 +1,5 @@
 -- What a change of the index does to the seats.
-use Rattle.std.specs.Prelude.{◌≡◌, ℕ, ◌+◌, ◌-◌, ◌<◌, ◌^◌, ◌++◌, replicate, true, false, List, Option, None, Some, slice_get, sum_by, MatchOption}
+use Rattle.std.specs.Prelude.{◌≡◌, ◌≢◌, ℕ, ◌+◌, ◌-◌, ◌<◌, ◌^◌, ◌++◌, replicate, true, false, List, Option, None, Some, slice_get, sum_by, MatchOption}
 use Rattle.std.proofs.Math.ListN.{set}
 use Rattle.lru_clock.specs.Evictions.{charge_at}
 use Rattle.lru_clock.specs.Seats.{Seat, seat, listed_as}
@@ -29,9 +29,12 @@ module _ {K : Type 0} where
   abbrev pub AddsVacant : List (Seat K) → List (Seat K) → Type 0
   AddsVacant old new = (n : ℕ) × (new ≡ old ++ replicate n (seat 0 0 None))
 
-  -- a vacant place was taken for an entry, perhaps one that was added for it
+  -- a vacant place was taken for an entry, perhaps one that was added for it; the index does not
+  -- have the entry
   abbrev pub Reserves : List (Seat K) → ℕ → List (Seat K) → Type 0
-  Reserves old p new = (wide : List (Seat K)) × AddsVacant old wide × IsVacant wide p × ((s : Seat K) × (new ≡ set wide p s))
+  Reserves old p new =
+      (wide : List (Seat K)) × AddsVacant old wide × IsVacant wide p
+      × ((s : Seat K) × (s.is_listed ≡ false) × (new ≡ set wide p s))
 
   -- vacant places may have been added, and then the entry at some place left, if one did
   abbrev pub VacatesAny : {X : Type 0} → List (Seat K) → List (Seat K) → Option X → Type 0
@@ -47,3 +50,40 @@ module _ {K : Type 0} where
   pub record Charges (charge p : ℕ) (old new : List (Seat K)) : Type 0 where
     pub here : charge_at new p ≡ charge
     pub total : sum_by (λ s. s.charge) new ≡ sum_by (λ s. s.charge) old + charge
+
+  -- a place has a seat, and the index does not have its entry
+  abbrev pub IsUnlisted : List (Seat K) → ℕ → Type 0
+  IsUnlisted seats p = (s : Seat K) × (slice_get seats p ≡ Some s) × (s.is_listed ≡ false)
+
+  -- an entry that the index had left its place
+  abbrev pub VacatesListed : List (Seat K) → List (Seat K) → Type 0
+  VacatesListed old new = (p : ℕ) × (s : Seat K) × (slice_get old p ≡ Some s) × (s.is_listed ≡ true) × (new ≡ set old p (seat 0 0 None))
+
+  -- the same, if an entry left, and otherwise no charge changed
+  abbrev pub VacatesIfListed : {X : Type 0} → List (Seat K) → List (Seat K) → Option X → Type 0
+  VacatesIfListed old new None = KeepsCharges old new
+  VacatesIfListed old new (Some leaver) = VacatesListed old new
+
+  -- the entry at a place is as it was, and the total is less by the charge of another that left
+  pub record LeavesOther (p : ℕ) (old new : List (Seat K)) : Type 0 where
+    pub here : charge_at new p ≡ charge_at old p
+    pub place : ℕ
+    pub other : place ≢ p
+    pub total : sum_by (λ s. s.charge) new + charge_at old place ≡ sum_by (λ s. s.charge) old
+
+  -- the same, if another entry left, and otherwise no charge changed
+  abbrev pub LeavesAnyOther : {X : Type 0} → ℕ → List (Seat K) → List (Seat K) → Option X → Type 0
+  LeavesAnyOther p old new None = KeepsCharges old new
+  LeavesAnyOther p old new (Some leaver) = LeavesOther p old new
+
+  -- an entry of this charge is at a place, and the total has grown by it, and is less by the charge
+  -- of another entry that left
+  pub record ChargesForOther (charge p : ℕ) (old new : List (Seat K)) : Type 0 where
+    pub here : charge_at new p ≡ charge
+    pub place : ℕ
+    pub total : sum_by (λ s. s.charge) new + charge_at old place ≡ sum_by (λ s. s.charge) old + charge
+
+  -- the same, if another entry left, and otherwise the total has grown by the whole charge
+  abbrev pub ChargesOver : {X : Type 0} → ℕ → ℕ → List (Seat K) → List (Seat K) → Option X → Type 0
+  ChargesOver charge p old new None = Charges charge p old new
+  ChargesOver charge p old new (Some leaver) = ChargesForOther charge p old new

@@ -17,8 +17,10 @@ mod limits;
 mod makings;
 mod replacements;
 
+pub use crate::clock_core::holds::HeldOver;
 pub use crate::clock_core::invalidations::Invalidated;
 pub use crate::clock_core::makings::Begun;
+pub use crate::clock_core::replacements::Way;
 pub use crate::excess::ExcessFlag;
 use crate::history::past::Past;
 pub use crate::shard_state::ShardState;

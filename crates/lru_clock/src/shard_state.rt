@@ -133,6 +133,7 @@ impl<K: Eq + Drop> ShardState<K> {
         ensures order { self.new.order
             ≡ left taken.entry.place (charge_at self.old.seats taken.entry.place)
             (cond is_evicted (tag_at self.old.seats taken.entry.place) None) self.old.order }
+        ensures capacity { self.new.capacity ≡ self.old.capacity }
         ensures makings { self.new.makings ≡ self.old.makings }
     {
         let place = taken.place();

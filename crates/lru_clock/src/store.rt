@@ -6,7 +6,7 @@
 //! stay as they were: a reader that still has one may miss an entry, and looks again under the
 //! lock.
 ghost use Rattle.std.specs.Prelude.{◌≡◌, ◌≢◌, ◌<◌, true, Some, None, IfErr, IfOk, IfSome};
-ghost use Rattle.std.specs.Prelude.{◌∷◌, MatchResult, sum_by};
+ghost use Rattle.std.specs.Prelude.{◌∷◌, MatchResult, is_some, sum_by};
 ghost use Rattle.lru_clock.specs.Books.{EachAt, numbers};
 ghost use Rattle.lru_clock.specs.Hits.{ComesLast};
 ghost use Rattle.lru_clock.specs.Looks.{LooksOnce};
@@ -143,6 +143,7 @@ impl<'a, K: Eq + Drop, V: Drop, F: Fit<K, V>> Left<'a, K, V, F> {
     fn take_slot(left: &mut Option<Self>, place: u32) -> Option<Claimed<'a, K, V, F>>
         ensures book { IfSome result (λ claimed. left.old ≡ Some (Some claimed.book)) }
         ensures place { IfSome result (λ claimed. claimed.place ≡ place) }
+        ensures left { is_some left.new ≡ is_some left.old }
     {
         let Some(left) = left else {
             return None;
@@ -325,6 +326,7 @@ impl<K: Eq + Drop, V: Drop, F: Fit<K, V>> Store<K, V, F> {
         ensures ticket { IfSome ticket (λ t. IfOk result
             (λ filled. ComesLast t filled.pin.value filled.pin.log)) }
         ensures book { IfOk result (λ filled. filled.pin.book ≡ self.now.chronicle.first.book) }
+        ensures left { is_some left.new ≡ is_some left.old }
     {
         let place = reservation.place;
         let claimed = match Left::take_slot(left, place) {

@@ -30,25 +30,25 @@ module _ {K : Type 0} (seats : List (Seat K)) (p : ℕ) where
   pub vacated : charges (set seats p (seat 0 0 None)) + charge_at seats p ≡ charges seats
   vacated = vacated_by (slice_get seats p) refl
 
-  -- the index has the entry of a place from now on
-  module _ (s : Seat K) (is : slice_get seats p ≡ Some s) where
-    same_charge : (q : ℕ) → charge_at (set seats p (listed_as true s)) q ≡ charge_at seats q
+  -- the index has the entry of a place from now on, or does not have it
+  module _ (s : Seat K) (is : slice_get seats p ≡ Some s) (b : Bool) where
+    same_charge : (q : ℕ) → charge_at (set seats p (listed_as b s)) q ≡ charge_at seats q
     same_charge q = elim (cases_eq q p) [
-      | inl e ↦ ap (λ j. charge_at (set seats p (listed_as true s)) j) e
-          ∙ ap charge_in (got_same seats p (listed_as true s) (slice_get_within seats p s is))
+      | inl e ↦ ap (λ j. charge_at (set seats p (listed_as b s)) j) e
+          ∙ ap charge_in (got_same seats p (listed_as b s) (slice_get_within seats p s is))
           ∙ sym (ap charge_in is) ∙ ap (charge_at seats) (sym e)
-      | inr ne ↦ ap charge_in (got_other seats p q (listed_as true s) ne)
+      | inr ne ↦ ap charge_in (got_other seats p q (listed_as b s) ne)
     ]
 
-    pub listed : KeepsCharges seats (set seats p (listed_as true s))
+    pub listed : KeepsCharges seats (set seats p (listed_as b s))
     listed = record {
-      total = sum_kept seats p s (listed_as true s) is refl;
+      total = sum_kept seats p s (listed_as b s) is refl;
       each = same_charge;
     }
 
 -- the index has the entry of a place from now on, or nothing changed
 pub keeps : {K : Type 0} (old new : List (Seat K)) (p : ℕ) (b : Bool) → MatchBool b (ListsAt old p new) (new ≡ old) → KeepsCharges old new
-keeps old new p true (s, is, unlisted, same) = subst (KeepsCharges old) (sym same) (listed old p s is)
+keeps old new p true (s, is, unlisted, same) = subst (KeepsCharges old) (sym same) (listed old p s is true)
 keeps old new p false same = subst (KeepsCharges old) (sym same) (record { total = refl; each = λ q. refl })
 
 -- room was made before, which changes no charge

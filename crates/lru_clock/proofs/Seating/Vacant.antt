@@ -1,10 +1,10 @@
 -- Seats to which vacant ones were added.
-use Rattle.std.proofs.Common.{◌≡◌, ℕ, ◌+◌, ◌++◌, ◌∷◌, [], Bool, true, false, List, Option, None, Some, set, refl, sym, ap, subst, ◌∙◌, append_assoc, append-nil}
+use Rattle.std.proofs.Common.{◌≡◌, ℕ, ◌+◌, ◌++◌, ◌∷◌, [], Bool, true, false, List, Option, None, Some, MatchOption, set, refl, sym, ap, subst, ◌∙◌, append_assoc, append-nil}
 use Rattle.std.specs.Prelude.{replicate, IfNone}
 use Rattle.std.proofs.lemmas.List.{set-set, replicate-append-replicate}
 use Rattle.lru_clock.specs.Evictions.{MakesRoom, Vacates}
 use Rattle.lru_clock.specs.Orders.{OrderOf}
-use Rattle.lru_clock.specs.SeatChanges.{AddsVacant, Reserves, VacatesAny}
+use Rattle.lru_clock.specs.SeatChanges.{AddsVacant, Reserves, VacatesAny, VacatesListed}
 use Rattle.lru_clock.specs.Seats.{Seat, seat}
 use Rattle.lru_clock.specs.declared.order.Looked.{Looked}
 use Rattle.lru_clock.proofs.Seating.Places.{set_again}
@@ -22,11 +22,11 @@ module _ {K : Type 0} where
 
   -- the place was given back
   pub cancelled : (old new : List (Seat K)) (p : ℕ) → Reserves old p new → AddsVacant old (set new p (seat 0 0 None))
-  cancelled old new p (wide, added, vacant, (s, is)) =
+  cancelled old new p (wide, added, vacant, (s, unlisted, is)) =
       subst (AddsVacant old) (sym (ap (λ l. set l p (seat 0 0 None)) is ∙ set-set wide p s (seat 0 0 None) ∙ set_again wide p (seat 0 0 None) vacant)) added
 
   -- the place was given back, and meanwhile no seat changed unless an entry left
-  pub cancelled_after : {X : Type 0} (old counted given : List (Seat K)) (p : ℕ) (left : Option X) → Reserves old p counted → IfNone left (given ≡ counted) → IfNone left (AddsVacant old (set given p (seat 0 0 None)))
+  pub cancelled_after : {X : Type 0} (old counted given : List (Seat K)) (p : ℕ) (left : Option X) → Reserves old p counted → MatchOption left (given ≡ counted) (λ _. VacatesListed counted given) → IfNone left (AddsVacant old (set given p (seat 0 0 None)))
   cancelled_after old counted given p None reserves same = subst (AddsVacant old) (sym (ap (λ l. set l p (seat 0 0 None)) same)) (cancelled old counted p reserves)
   cancelled_after old counted given p (Some leaver) reserves same = tt
 

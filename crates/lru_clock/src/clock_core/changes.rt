@@ -1,11 +1,12 @@
 //! The changes of a shard: entries that come, and entries that leave other than by eviction.
-ghost use Rattle.std.specs.Prelude.{◌≡◌, ◌≢◌, false, true, None, Some, IfErr, IfOk, IfSome};
-ghost use Rattle.std.specs.Prelude.{MatchOption, MatchResult, sum_by};
+ghost use Rattle.std.specs.Prelude.{◌≡◌, ◌≢◌, ◌+◌, ◌<◌, ◌^◌, false, true, None, Some};
+ghost use Rattle.std.specs.Prelude.{IfErr, IfOk, IfSome, MatchOption, MatchResult, is_some, sum_by};
 ghost use Rattle.std.proofs.Math.ListN.{set};
-ghost use Rattle.lru_clock.specs.Evictions.{Comes, refuses};
+ghost use Rattle.lru_clock.specs.Evictions.{Comes, refuses, IsWithin};
 ghost use Rattle.lru_clock.specs.Hits.{ComesLast};
 ghost use Rattle.lru_clock.specs.Orders.{IsWidened};
 ghost use Rattle.lru_clock.specs.SeatChanges.{AddsVacant, Charges, KeepsCharges, Reserves};
+ghost use Rattle.lru_clock.specs.SeatChanges.{VacatesIfListed};
 ghost use Rattle.lru_clock.specs.Seats.{seat, LacksKey};
 
 use crate::clock_core::Core;
@@ -40,6 +41,8 @@ impl<K: Eq + Clone + Drop, V: Drop, F: Fit<K, V>> Core<K, V, F> {
     #[tactic(auto, using(crate::proofs::FirstBits::same_widened, crate::proofs::Seating::Vacant::none_added))]
     pub fn admit(&self, state: &mut ShardState<K>, charge: u64) -> Result<(), Refusal>
         ensures never_stale { IfErr result (λ e. e ≢ Refusal.Stale) }
+        ensures fits { IfOk result (λ _. sum_by (λ seat. seat.charge) state.old.seats + charge
+            < 2 ^ 64) }
         ensures order { IsWidened state.old.order state.new.order }
         ensures capacity { state.new.capacity ≡ state.old.capacity }
         ensures total { sum_by (λ seat. seat.charge) state.new.seats
@@ -75,6 +78,7 @@ impl<K: Eq + Clone + Drop, V: Drop, F: Fit<K, V>> Core<K, V, F> {
         key_copy: Option<K>,
         ticket: Option<u64>,
         left: &mut Option<Left<'a, K, V, F>>,
+        is_strict: bool,
     ) -> Result<PinAt<'a, K, V, F>, (Refusal, Left<'a, K, V, F>)>
         requires fits { F.fits kept.key kept.value }
         requires asked { F.fits key.now kept.value }
@@ -91,8 +95,10 @@ impl<K: Eq + Clone + Drop, V: Drop, F: Fit<K, V>> Core<K, V, F> {
         ensures book { IfOk result
             (λ found. found.pin.book ≡ self.now.store.chronicle.first.book) }
         ensures never_stale { IfErr result (λ e. e.0 ≢ Refusal.Stale) }
-        ensures within { IfOk result (λ _. refuses state.old.is_strict state.old.capacity
-            state.old.seats charge ≡ false) }
+        ensures room { IfOk result
+            (λ _. refuses is_strict state.old.capacity state.old.seats charge ≡ false) }
+        ensures within { IfOk result
+            (λ _. IsWithin is_strict state.new.capacity state.new.seats) }
         ensures order { MatchResult result
             (λ found. Comes state.new.seats found.place state.old.capacity
             state.old.order state.new.order)
@@ -102,9 +108,10 @@ impl<K: Eq + Clone + Drop, V: Drop, F: Fit<K, V>> Core<K, V, F> {
             (λ _. sum_by (λ seat. seat.charge) state.new.seats
             ≡ sum_by (λ seat. seat.charge) state.old.seats) }
         ensures refused { IfErr result (λ _. AddsVacant state.old.seats state.new.seats) }
+        ensures left { is_some left.new ≡ is_some left.old }
         ensures makings { state.new.makings ≡ state.old.makings }
     {
-        if state.refuses(charge, state.is_strict) {
+        if state.refuses(charge, is_strict) {
             return Err((Refusal::Full, Left::refused(kept, key_copy)));
         }
         let is_listed = key_copy.is_some();
@@ -156,6 +163,8 @@ impl<K: Eq + Clone + Drop, V: Drop, F: Fit<K, V>> Core<K, V, F> {
         ensures refused { IfErr result (λ e. e.0 ≢ Refusal.Stale) }
         ensures order { IsWidened state.old.order state.new.order }
         ensures capacity { state.new.capacity ≡ state.old.capacity }
+        ensures fits { IfOk result
+            (λ _. sum_by (λ seat. seat.charge) state.new.seats < 2 ^ 64) }
         ensures charged { MatchResult result
             (λ r. Charges charge r.place state.old.seats state.new.seats)
             (λ _. sum_by (λ seat. seat.charge) state.new.seats
@@ -184,6 +193,8 @@ impl<K: Eq + Clone + Drop, V: Drop, F: Fit<K, V>> Core<K, V, F> {
     ) -> Option<Left<'_, K, V, F>>
         ensures book { IfSome result (λ l. l ≡ Some self.now.store.chronicle.first.book) }
         ensures gone { LacksKey K.eq state.new.seats tag key.now }
+        ensures left { VacatesIfListed state.old.seats state.new.seats result }
+        ensures capacity { state.new.capacity ≡ state.old.capacity }
         ensures makings { state.new.makings ≡ state.old.makings }
     {
         let place = state.seats.find(tag, key)?;
@@ -197,6 +208,7 @@ impl<K: Eq + Clone + Drop, V: Drop, F: Fit<K, V>> Core<K, V, F> {
     pub fn take_idle(&self, state: &mut ShardState<K>, place: u32) -> Option<Left<'_, K, V, F>>
         ensures seats { MatchOption result (state.new ≡ state.old)
             (λ _. state.new.seats ≡ set state.old.seats place (seat 0 0 None)) }
+        ensures capacity { state.new.capacity ≡ state.old.capacity }
         ensures makings { state.new.makings ≡ state.old.makings }
     {
         let taken = self.store.take_idle(place)?;

@@ -3,14 +3,25 @@ ghost use Rattle.std.specs.Prelude.{◌≡◌, ◌≢◌, false, None, IfErr, If
 ghost use Rattle.std.specs.List.{list_any};
 ghost use Rattle.std.proofs.Math.ListN.{set};
 ghost use Rattle.lru_clock.specs.Makings.{is_of};
-ghost use Rattle.lru_clock.specs.SeatChanges.{Charges};
+ghost use Rattle.lru_clock.specs.Evictions.{IsWithin};
+ghost use Rattle.lru_clock.specs.SeatChanges.{AddsVacant, Charges, ChargesOver};
 ghost use Rattle.lru_clock.specs.Seats.{seat};
+ghost use Rattle.lru_clock.specs.Ways.{IfHeld};
 
 use crate::clock_core::Core;
+use crate::clock_core::replacements::Way;
 use crate::shard_state::ShardState;
 use crate::store::{Left, PinAt, Released};
 use concurrent_lru::fit::Fit;
 use concurrent_lru::sharded::Refusal;
+
+/// What an insert of a caller that cannot keep a pin did, if it was not refused.
+pub enum HeldOver<'a, K: Eq, V, F: Fit<K, V>> {
+    /// The new entry was stored at this place and held, and this entry has left, if one has.
+    Held(u32, Option<Left<'a, K, V, F>>),
+    /// Nothing was stored: this entry has left, and another has to leave first.
+    Blocked(Left<'a, K, V, F>),
+}
 
 impl<K: Eq + Clone + Drop, V: Copy + Drop, F: Fit<K, V>> Core<K, V, F> {
     /// Holds the key's entry without the lock, gives it another chance, and returns its place and
@@ -120,6 +131,59 @@ impl<K: Eq + Clone + Drop, V: Copy + Drop, F: Fit<K, V>> Core<K, V, F> {
         Ok(place)
     }
 
+    /// Stores a value in place of the key's entry, holds the new entry, and returns its place with
+    /// the entry that has left, if one has. Makes way first, as `make_way` does: if it is blocked,
+    /// nothing is stored. Later callers wait for no making of the key after the value was stored.
+    ///
+    /// Returns `Memory` if a copy of the key is refused, and `Memory`, `Overflow` and `Full` as
+    /// `make_way` and `store_over` do. No entry has changed then.
+    pub fn hold_over(
+        &self,
+        state: &mut ShardState<K>,
+        tag: u32,
+        key: &K,
+        charge: u64,
+        value: V,
+        is_strict: bool,
+    ) -> Result<HeldOver<'_, K, V, F>, Refusal>
+        requires fits { F.fits key.now value }
+        ensures unmade { IfOk result (λ over. IfHeld over (λ _ _.
+            list_any (is_of K.eq key.now) state.new.makings ≡ false)) }
+        ensures charged { IfOk result (λ over. IfHeld over (λ place left.
+            ChargesOver charge place state.old.seats state.new.seats left)) }
+        ensures within { IfOk result (λ over. IfHeld over (λ _ _.
+            IsWithin is_strict state.new.capacity state.new.seats)) }
+        ensures refused { IfErr result
+            (λ e. (e ≢ Refusal.Stale) × AddsVacant state.old.seats state.new.seats) }
+    {
+        let kept = self.new_entry(key, value)?;
+        let key_copy = kept.key.clone()?;
+        let evicted = match self.make_way(state, tag, key, charge, is_strict)? {
+            Way::Clear(evicted) => evicted,
+            Way::Blocked(left) => return Ok(HeldOver::Blocked(left)),
+        };
+        let (stored, left) = self.store_over(
+            state, tag, key, charge, kept, key_copy, evicted, is_strict,
+        );
+        match stored {
+            Ok(PinAt { place, pin }) => {
+                // Never refused: nobody else has held the new entry.
+                let _ = self.hold_at(place);
+                let _ = pin.release();
+                state.makings.invalidate(key);
+                state.counts.insertions = state.counts.insertions.wrapping_add(1);
+                Ok(HeldOver::Held(place, left))
+            }
+            Err((refusal, refused)) => {
+                drop(refused.into_parts());
+                match left {
+                    Some(left) => Ok(HeldOver::Blocked(left)),
+                    None => Err(refusal),
+                }
+            }
+        }
+    }
+
     /// Stores a value, which was made under a ticket of this number, or which begins to be made by
     /// this call if there is none. Holds the entry, and returns its place. If the index is not to
     /// have the entry, it is already invalidated, and only this caller gets it.
@@ -148,7 +212,10 @@ impl<K: Eq + Clone + Drop, V: Copy + Drop, F: Fit<K, V>> Core<K, V, F> {
             None
         };
         let mut left = None;
-        let stored = self.put(state, tag, key, charge, kept, key_copy, ticket, &mut left);
+        let is_strict = state.is_strict;
+        let stored = self.put(
+            state, tag, key, charge, kept, key_copy, ticket, &mut left, is_strict,
+        );
         if let Some(left) = left {
             drop(left.into_parts());
         }

@@ -1,24 +1,22 @@
 //! The strict limit of a shard: which new entries it refuses.
-ghost use Rattle.std.specs.Prelude.{◌≡◌, ◌≢◌, true, Some, IfErr, IfSome};
+ghost use Rattle.std.specs.Prelude.{◌≡◌, true, Some, IfSome};
 ghost use Rattle.lru_clock.specs.Evictions.{refuses};
-ghost use Rattle.lru_clock.specs.SeatChanges.{AddsVacant};
 
 use crate::clock_core::Core;
 use crate::shard_state::ShardState;
 use crate::store::{Left, Looks};
 use concurrent_lru::fit::Fit;
-use concurrent_lru::sharded::Refusal;
 
 impl<K: Eq + Clone + Drop, V: Drop, F: Fit<K, V>> Core<K, V, F> {
     /// Returns whether the limit is strict and has no room for a new entry of this charge, even
     /// once every entry that nobody has pinned has left. Visits slots until enough of the entries
     /// there are idle.
     #[inline(always)]
-    pub fn is_full_for(&self, state: &ShardState<K>, charge: u64) -> bool
+    pub fn is_full_for(&self, state: &ShardState<K>, charge: u64, is_strict: bool) -> bool
         ensures { result ≡ true
-            → refuses state.now.is_strict state.now.capacity state.now.seats charge ≡ true }
+            → refuses is_strict state.now.capacity state.now.seats charge ≡ true }
     {
-        state.refuses(charge, state.is_strict) && self.lacks_idle(state, charge)
+        state.refuses(charge, is_strict) && self.lacks_idle(state, charge)
     }
 
     // Returns whether the total, with a new entry of this charge, would exceed the capacity even
@@ -41,27 +39,12 @@ impl<K: Eq + Clone + Drop, V: Drop, F: Fit<K, V>> Core<K, V, F> {
         idle < excess
     }
 
-    /// Checks that a new entry of this charge can be stored once there is room for it: does what
-    /// `admit` does, with the same refusals, and also returns `Full` if the limit refuses the entry
-    /// in any case. No entry changes.
-    pub fn admit_within(&self, state: &mut ShardState<K>, charge: u64) -> Result<(), Refusal>
-        ensures never_stale { IfErr result (λ e. e ≢ Refusal.Stale) }
-        ensures seats { AddsVacant state.old.seats state.new.seats }
-        ensures makings { state.new.makings ≡ state.old.makings }
-    {
-        self.admit(state, charge)?;
-        if self.is_full_for(state, charge) {
-            return Err(Refusal::Full);
-        }
-        Ok(())
-    }
-
     /// Evicts one entry if a new entry of this charge needs the room, but none for an entry that
     /// the limit refuses in any case.
     pub fn make_room_for(&self, state: &mut ShardState<K>, charge: u64) -> Option<Left<'_, K, V, F>>
         ensures book { IfSome result (λ l. l ≡ Some self.now.store.chronicle.first.book) }
     {
-        if self.is_full_for(state, charge) {
+        if self.is_full_for(state, charge, state.is_strict) {
             return None;
         }
         self.make_room(state, charge, &mut Looks::new())

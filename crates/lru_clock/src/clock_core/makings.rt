@@ -52,7 +52,7 @@ impl<K: Eq + Clone + Drop, V: Drop, F: Fit<K, V>> Core<K, V, F> {
         if state.seats.total().checked_add(charge).is_none() {
             return Err(Refusal::Overflow);
         }
-        if self.is_full_for(state, charge) {
+        if self.is_full_for(state, charge, state.is_strict) {
             return Err(Refusal::Full);
         }
         let key_copy = key.clone()?;

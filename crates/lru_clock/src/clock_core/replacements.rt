@@ -2,8 +2,12 @@
 //!
 //! The key's entry leaves last, so that a new entry that is refused leaves it as it was.
 ghost use Rattle.std.specs.Prelude.{◌≡◌, ◌≢◌, true, None, Some, IfErr, IfNone, IfOk, IfSome};
-ghost use Rattle.std.specs.Prelude.{MatchResult};
-ghost use Rattle.lru_clock.specs.SeatChanges.{AddsVacant, VacatesAny};
+ghost use Rattle.std.specs.Prelude.{MatchOption, MatchResult, is_some};
+ghost use Rattle.lru_clock.specs.Evictions.{IsWithin};
+ghost use Rattle.lru_clock.specs.SeatChanges.{AddsVacant, Charges, ChargesOver, KeepsCharges};
+ghost use Rattle.lru_clock.specs.SeatChanges.{IsUnlisted, LeavesAnyOther, VacatesAny};
+ghost use Rattle.lru_clock.specs.SeatChanges.{VacatesListed};
+ghost use Rattle.lru_clock.specs.Ways.{left_by};
 
 use crate::clock_core::Core;
 use crate::shard_state::ShardState;
@@ -11,36 +15,58 @@ use crate::store::{Kept, Left, Looks, PinAt, Reservation};
 use concurrent_lru::fit::Fit;
 use concurrent_lru::sharded::Refusal;
 
+/// The way for an entry that is to be stored in place of the key's.
+pub enum Way<'a, K: Eq, V, F: Fit<K, V>> {
+    /// It is clear, and this entry has left to make it so, if one has.
+    Clear(Option<Left<'a, K, V, F>>),
+    /// It is blocked: this entry has left, and another has to leave first.
+    Blocked(Left<'a, K, V, F>),
+}
+
 impl<K: Eq + Clone + Drop, V: Drop, F: Fit<K, V>> Core<K, V, F> {
-    /// Makes room for an entry that is to be stored in place of the key's: adds a place if none is
+    /// Makes way for an entry that is to be stored in place of the key's: adds a place if none is
     /// vacant, and evicts one entry if the charge would take the total above the capacity. The
     /// charge of the key's entry counts as room, unless somebody has pinned it.
     ///
-    /// Returns `Memory`, `Overflow` and `Full` as `admit_within` does, and `Full` also if the limit
-    /// is strict, there is too little room, and no entry can be evicted. No entry has changed then.
+    /// At most one entry leaves, so the way is blocked if one has and there is still too little
+    /// room. It is also blocked if one has and the key still has an entry, which then leaves next.
+    ///
+    /// Returns `Memory` and `Overflow` as `admit` does, and `Full` if the limit is strict, there is
+    /// too little room, and no entry can be evicted, or not enough of them. No entry has changed
+    /// then.
     pub fn make_way(
         &self,
         state: &mut ShardState<K>,
         tag: u32,
         key: &K,
         charge: u64,
-    ) -> Result<Option<Left<'_, K, V, F>>, Refusal>
-        ensures book { IfOk result (λ left. IfSome left
+        is_strict: bool,
+    ) -> Result<Way<'_, K, V, F>, Refusal>
+        ensures book { IfOk result (λ way. IfSome (left_by way)
             (λ l. l ≡ Some self.now.store.chronicle.first.book)) }
         ensures never_stale { IfErr result (λ e. e ≢ Refusal.Stale) }
         ensures seats { MatchResult result
-            (λ left. VacatesAny state.old.seats state.new.seats left)
+            (λ way. VacatesAny state.old.seats state.new.seats (left_by way))
             (λ _. AddsVacant state.old.seats state.new.seats) }
     {
-        self.admit_within(state, charge)?;
+        self.admit(state, charge)?;
+        if self.is_full_for(state, charge, is_strict) {
+            return Err(Refusal::Full);
+        }
         if !state.is_above(charge) {
-            return Ok(None);
+            return Ok(Way::Clear(None));
         }
         let needed = charge.saturating_sub(self.idle_charge(state, tag, key));
         match self.make_room(state, needed, &mut Looks::new()) {
-            Some(left) => Ok(Some(left)),
-            None if state.refuses(needed, state.is_strict) => Err(Refusal::Full),
-            None => Ok(None),
+            Some(left) => {
+                if state.is_above(charge) || state.seats.find(tag, key).is_some() {
+                    Ok(Way::Blocked(left))
+                } else {
+                    Ok(Way::Clear(Some(left)))
+                }
+            }
+            None if state.refuses(needed, is_strict) => Err(Refusal::Full),
+            None => Ok(Way::Clear(None)),
         }
     }
 
@@ -60,9 +86,9 @@ impl<K: Eq + Clone + Drop, V: Drop, F: Fit<K, V>> Core<K, V, F> {
         }
     }
 
-    /// Stores an entry in place of the key's, and pins it. `evicted` is an entry that has just
-    /// left, so that there is room and the key has no entry. Returns the entry that has left, if
-    /// one has.
+    /// Stores an entry in place of the key's, and pins it. `evicted` is an entry that has just left
+    /// to make way, so that there is room and the key has no entry. Returns the entry that has
+    /// left, if one has.
     ///
     /// Returns `Memory`, `Overflow` and `Full` as `replace` does, with the entry that was refused.
     pub fn store_over<'a>(
@@ -74,6 +100,7 @@ impl<K: Eq + Clone + Drop, V: Drop, F: Fit<K, V>> Core<K, V, F> {
         kept: Kept<K, V, F>,
         key_copy: K,
         evicted: Option<Left<'a, K, V, F>>,
+        is_strict: bool,
     ) -> (
         Result<PinAt<'a, K, V, F>, (Refusal, Left<'a, K, V, F>)>,
         Option<Left<'a, K, V, F>>,
@@ -90,6 +117,12 @@ impl<K: Eq + Clone + Drop, V: Drop, F: Fit<K, V>> Core<K, V, F> {
         ensures book { IfOk result.0
             (λ found. found.pin.book ≡ self.now.store.chronicle.first.book) }
         ensures never_stale { IfErr result.0 (λ e. e.0 ≢ Refusal.Stale) }
+        ensures charged { IfOk result.0 (λ found. MatchOption evicted.entry
+            (ChargesOver charge found.place state.old.seats state.new.seats result.1)
+            (λ _. Charges charge found.place state.old.seats state.new.seats)) }
+        ensures within { IfOk result.0
+            (λ _. IsWithin is_strict state.new.capacity state.new.seats) }
+        ensures left { IfSome evicted.entry (λ _. is_some result.1 ≡ true) }
         ensures refused { IfErr result.0
             (λ _. IfNone result.1 (AddsVacant state.old.seats state.new.seats)) }
         ensures makings { state.new.makings ≡ state.old.makings }
@@ -98,10 +131,12 @@ impl<K: Eq + Clone + Drop, V: Drop, F: Fit<K, V>> Core<K, V, F> {
             Some(evicted) => {
                 let mut left = Some(evicted);
                 let copy = Some(key_copy);
-                let stored = self.put(state, tag, key, charge, kept, copy, None, &mut left);
+                let stored = self.put(
+                    state, tag, key, charge, kept, copy, None, &mut left, is_strict,
+                );
                 (stored, left)
             }
-            None => self.replace(state, tag, key, charge, kept, key_copy),
+            None => self.replace(state, tag, key, charge, kept, key_copy, is_strict),
         }
     }
 
@@ -109,8 +144,8 @@ impl<K: Eq + Clone + Drop, V: Drop, F: Fit<K, V>> Core<K, V, F> {
     /// pinned it, and is invalidated otherwise. Returns the entry that has left, if one has.
     ///
     /// Returns `Memory` and `Overflow` as `admit` does, and `Full` if the limit is strict and has
-    /// no room for both entries, and somebody has pinned the key's; with the entry that was
-    /// refused. The key's entry has not changed then.
+    /// no room for both entries, and somebody has pinned the key's or its charge is too little;
+    /// with the entry that was refused. The key's entry has not changed then.
     pub fn replace(
         &self,
         state: &mut ShardState<K>,
@@ -119,6 +154,7 @@ impl<K: Eq + Clone + Drop, V: Drop, F: Fit<K, V>> Core<K, V, F> {
         charge: u64,
         kept: Kept<K, V, F>,
         key_copy: K,
+        is_strict: bool,
     ) -> (
         Result<PinAt<'_, K, V, F>, (Refusal, Left<'_, K, V, F>)>,
         Option<Left<'_, K, V, F>>,
@@ -134,6 +170,10 @@ impl<K: Eq + Clone + Drop, V: Drop, F: Fit<K, V>> Core<K, V, F> {
         ensures book { IfOk result.0
             (λ found. found.pin.book ≡ self.now.store.chronicle.first.book) }
         ensures never_stale { IfErr result.0 (λ e. e.0 ≢ Refusal.Stale) }
+        ensures charged { IfOk result.0 (λ found.
+            ChargesOver charge found.place state.old.seats state.new.seats result.1) }
+        ensures within { IfOk result.0
+            (λ _. IsWithin is_strict state.new.capacity state.new.seats) }
         ensures refused { IfErr result.0
             (λ _. IfNone result.1 (AddsVacant state.old.seats state.new.seats)) }
         ensures makings { state.new.makings ≡ state.old.makings }
@@ -144,7 +184,7 @@ impl<K: Eq + Clone + Drop, V: Drop, F: Fit<K, V>> Core<K, V, F> {
                 return (Err((refusal, Left::refused(kept, key_copy))), None);
             }
         };
-        let old = match self.give_way(state, tag, key) {
+        let old = match self.give_way(state, tag, key, is_strict) {
             Ok(old) => old,
             Err(refusal) => {
                 let refused = Left::refused(kept, state.seats.cancel(reservation));
@@ -167,22 +207,34 @@ impl<K: Eq + Clone + Drop, V: Drop, F: Fit<K, V>> Core<K, V, F> {
     // Takes out the key's entry if the limit is strict and the total, which counts the new entry as
     // well, is above the capacity.
     //
-    // Returns `Full` if somebody has pinned the key's entry, or it has none.
+    // Returns `Full` if somebody has pinned the key's entry, its charge is too little, or it has
+    // none.
     fn give_way(
         &self,
         state: &mut ShardState<K>,
         tag: u32,
         key: &K,
+        is_strict: bool,
     ) -> Result<Option<Left<'_, K, V, F>>, Refusal>
-        ensures seats { MatchResult result
-            (λ left. IfNone left (state.new.seats ≡ state.old.seats))
+        ensures seats { MatchResult result (λ left. MatchOption left
+            (state.new.seats ≡ state.old.seats)
+            (λ _. VacatesListed state.old.seats state.new.seats))
             (λ e. (e ≡ Refusal.Full) × (state.new.seats ≡ state.old.seats)) }
+        ensures within { IfOk result
+            (λ _. IsWithin is_strict state.new.capacity state.new.seats) }
         ensures makings { state.new.makings ≡ state.old.makings }
     {
-        if !state.refuses(0, state.is_strict) {
+        let excess = state.seats.total().saturating_sub(state.capacity);
+        if !is_strict || excess == 0 {
             return Ok(None);
         }
-        match self.take_idle_of(state, tag, key) {
+        let Some(place) = state.seats.find(tag, key) else {
+            return Err(Refusal::Full);
+        };
+        if state.seats.charge_at(place) < excess {
+            return Err(Refusal::Full);
+        }
+        match self.take_idle(state, place) {
             Some(old) => Ok(Some(old)),
             None => Err(Refusal::Full),
         }
@@ -232,6 +284,11 @@ impl<K: Eq + Clone + Drop, V: Drop, F: Fit<K, V>> Core<K, V, F> {
         place: u32,
         old: Option<Left<'a, K, V, F>>,
     ) -> Option<Left<'a, K, V, F>>
+        requires unlisted { IfNone old (IsUnlisted state.old.seats place) }
+        ensures charges { MatchOption old.entry
+            (LeavesAnyOther place state.old.seats state.new.seats result)
+            (λ _. KeepsCharges state.old.seats state.new.seats × (is_some result ≡ true)) }
+        ensures capacity { state.new.capacity ≡ state.old.capacity }
         ensures makings { state.new.makings ≡ state.old.makings }
     {
         let left = match old {

@@ -4,7 +4,7 @@ ghost use Rattle.std.specs.Prelude.{◌≡◌, ◌≢◌, ◌<◌, true, IfErr, 
 ghost use mathlib.Core.List.{IsPrefix};
 ghost use Rattle.lru_clock.specs.Hits.{ComesLast};
 
-use crate::clock_core::Invalidated;
+use crate::clock_core::{Invalidated, Way};
 use crate::history::past::Past;
 use crate::makings::{Ended, Ticket};
 use crate::shard::Shard;
@@ -67,6 +67,7 @@ impl<K: Hash + Eq + Clone + Drop, V: Drop, F: Fit<K, V>> Shard<K, V, F> {
             }
         };
         let (mut guard, mut left) = self.lock_with_room(rt, charge);
+        let is_strict = guard.is_strict;
         let number = ticket.number();
         let making = guard.makings.end(ticket);
         let (key_copy, unlisted) = checked_key(making, &kept.key);
@@ -79,6 +80,7 @@ impl<K: Hash + Eq + Clone + Drop, V: Drop, F: Fit<K, V>> Shard<K, V, F> {
             key_copy,
             Some(number),
             &mut left,
+            is_strict,
         );
         if stored.is_ok() {
             guard.counts.makings = guard.counts.makings.wrapping_add(1);
@@ -132,23 +134,21 @@ impl<K: Hash + Eq + Clone + Drop, V: Drop, F: Fit<K, V>> Shard<K, V, F> {
         let key_copy = kept.key.clone()?;
         for _ in rt.forever() {
             let mut guard = self.lock(rt);
-            let evicted = match self.core.make_way(&mut guard, tag, key, charge) {
-                Ok(evicted) => evicted,
+            let is_strict = guard.is_strict;
+            let evicted = match self.core.make_way(&mut guard, tag, key, charge, is_strict) {
+                Ok(Way::Clear(evicted)) => evicted,
+                Ok(Way::Blocked(left)) => {
+                    self.unlock(guard, Some(left));
+                    continue;
+                }
                 Err(refusal) => {
                     self.unlock(guard, None);
                     return Err(refusal);
                 }
             };
-            // At most one entry leaves each time: the key's does the next time.
-            if evicted.is_some()
-                && (guard.is_above(charge) || guard.seats.find(tag, key).is_some())
-            {
-                self.unlock(guard, evicted);
-                continue;
-            }
-            let (stored, left) = self
-                .core
-                .store_over(&mut guard, tag, key, charge, kept, key_copy, evicted);
+            let (stored, left) = self.core.store_over(
+                &mut guard, tag, key, charge, kept, key_copy, evicted, is_strict,
+            );
             if stored.is_ok() {
                 guard.makings.invalidate(key);
                 guard.counts.insertions = guard.counts.insertions.wrapping_add(1);
