@@ -665,12 +665,13 @@ bool lru_chain_is_empty(lru_chain *chain);
  * Less is proved of these calls than of the others: that a call on a handle that is not open
  * changes nothing, that at most one entry leaves in a call, which tells it, that none leaves while
  * its slot counts a pin, that a strict add or ready is refused exactly if the charge would take the
- * total above the capacity, that an insert that is refused changes no entry, that no look-up under
- * the mutex finds a key after it was erased, that nobody is told LRU_MAKE while a caller makes the
- * value of the key, unless it was erased, added or inserted meanwhile, and that each ticket is
- * accepted once. That a look-up counts its pin, that each value is told to leave once, that an
- * insert replaces the key's entry, and that nobody finds a value that was made for an erased key,
- * is tested.
+ * total above the capacity, that an insert that is refused changes no entry, that the total has
+ * grown by the charge after one that is not, less that of the entry that left, and is within the
+ * capacity after a strict one, that no look-up under the mutex finds a key after it was erased,
+ * that nobody is told LRU_MAKE while a caller makes the value of the key, unless it was erased,
+ * added or inserted meanwhile, and that each ticket is accepted once. That a look-up counts its
+ * pin, that each value is told to leave once, that an insert replaces the key's entry, and that
+ * nobody finds a value that was made for an erased key, is tested.
  *
  * Giving a pin back evicts nothing. If pinned entries keep the total above the capacity, whoever
  * gives back the last pin of one is told LRU_ABOVE. To have the total down at once, take the mutex

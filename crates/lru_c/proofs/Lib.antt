@@ -11,4 +11,3 @@ pub mod Lent
 pub mod Opened
 pub mod Forms
 pub mod ClockForms
-pub mod Stored

@@ -3,9 +3,9 @@ use Rattle.std.specs.Prelude.{◌≡◌, ◌==◌, ◌⊎◌, ◌/◌, ◌^◌, 
 use Rattle.std.specs.List.{list_any}
 use Rattle.std.proofs.Math.ListN.{set}
 use Rattle.lru_clock.specs.Begun.{IsBegun}
-use Rattle.lru_clock.specs.Evictions.{places_of, refuses}
+use Rattle.lru_clock.specs.Evictions.{places_of, refuses, IsWithin}
 use Rattle.lru_clock.specs.Makings.{HasEnded, has_number, is_of}
-use Rattle.lru_clock.specs.SeatChanges.{AddsVacant, Charges}
+use Rattle.lru_clock.specs.SeatChanges.{AddsVacant, Charges, ChargesForOther}
 use Rattle.lru_clock.specs.Seats.{Seat, seat, LacksKey}
 use Rattle.lru_clock.specs.declared.clock_core.makings.Begun.TheVariants as begun
 use Rattle.lru_clock.specs.declared.shard_state.ShardState.{ShardState}
@@ -43,6 +43,10 @@ tag_of hash = hash / 2 ^ 32
 -- entry has the maximum number of pins.
 abbrev pub IsLookup : LruFound → Type 0
 IsLookup t = (t.code ≡ code.hit) ⊎ (t ≡ bare_found code.missed) ⊎ (t ≡ bare_found code.overflow)
+
+-- The answer of a call that was refused for want of memory, or since a number would overflow.
+abbrev pub IsRefused : LruFound → Type 0
+IsRefused t = (t ≡ bare_found code.memory) ⊎ (t ≡ bare_found code.overflow)
 
 -- A pin was given back, perhaps the last one of an entry, which was invalidated, or while the total
 -- was above the capacity; or there was none.
@@ -97,20 +101,19 @@ Adds key charge value is_strict old t new =
     (((t.code ≡ code.hit) × (new ≡ old)) ⊎ (t ≡ bare_found code.overflow) ⊎ MatchBool (refuses is_strict old.capacity old.seats charge) ((t ≡ bare_found code.full) × (new ≡ old))
     (((t.code ≡ code.done) × (t.value ≡ value) × Charges charge t.place old.seats new.seats × (is_making key new ≡ false)) ⊎ (t ≡ bare_found code.memory)))
 
--- An insert was refused.
-abbrev pub IsRefused : LruFound → Type 0
-IsRefused t = (t ≡ bare_found code.memory) ⊎ (t ≡ bare_found code.overflow) ⊎ (t ≡ bare_found code.full)
+-- An entry of this charge was stored, and the total has grown by it; or another entry has left, and
+-- the total is less by that one's charge.
+abbrev pub CountsOver : ℕ → Seats → LruFound → Seats → Type 0
+CountsOver charge old t new = ((t.code ≡ code.done) × Charges charge t.place old new) ⊎ ((t.code ≡ code.replaced) × ChargesForOther charge t.place old new)
 
--- An entry of this value was stored and pinned, and later callers wait for no making of the key; or
--- an entry left, and another has to leave first; or the new one is refused, and no entry changed.
-abbrev pub Stores : Words → ℕ → State → LruFound → State → Type 0
-Stores key value old t new =
-    (((t.code ≡ code.done) ⊎ (t.code ≡ code.replaced)) × (t.value ≡ value) × (is_making key new ≡ false)) ⊎ (t ≡ bare_found code.gone) ⊎ (IsRefused t × AddsVacant old.seats new.seats)
-
--- The same; a charge of 0 changes nothing.
-abbrev pub StoresOver : Words → ℕ → ℕ → State → LruFound → State → Type 0
-StoresOver key charge value old t new =
-    MatchBool (charge == 0) ((t ≡ bare_found code.no_charge) × (new ≡ old)) (Stores key value old t new)
+-- An entry of this charge and value was stored and pinned, the total is within the capacity if the
+-- call is strict, and later callers wait for no making of the key; or an entry left, and another
+-- has to leave first; or the new one is refused, and no entry changed. A charge of 0 changes
+-- nothing.
+abbrev pub StoresOver : Words → ℕ → ℕ → Bool → State → LruFound → State → Type 0
+StoresOver key charge value is_strict old t new =
+    MatchBool (charge == 0) ((t ≡ bare_found code.no_charge) × (new ≡ old))
+    ((CountsOver charge old.seats t new.seats × (t.value ≡ value) × IsWithin is_strict new.capacity new.seats × (is_making key new ≡ false)) ⊎ (t ≡ bare_found code.gone) ⊎ (((t ≡ bare_found code.full) ⊎ IsRefused t) × AddsVacant old.seats new.seats))
 
 -- The entry that left is written only with a code that says that one did.
 abbrev pub WritesLeft : ℕ → LruLeft → LruLeft → Type 0
@@ -122,7 +125,7 @@ WritesLeft c old new = MatchBool (c == code.gone) ⊤ (MatchBool (c == code.repl
 abbrev pub BeginsMaking : Words → ℕ → State → LruFound → State → Type 0
 BeginsMaking key charge old t new =
     MatchBool (charge == 0) ((t ≡ bare_found code.no_charge) × (new ≡ old))
-    (((t.code ≡ code.hit) × (new ≡ old)) ⊎ ((t ≡ found code.make t.value 0) × IsBegun {V = ℕ} words_eq key old (begun.Make t.value) new) ⊎ ((t ≡ bare_found code.wait) × IsBegun {V = ℕ} words_eq key old begun.Wait new) ⊎ (((t ≡ bare_found code.overflow) ⊎ (t ≡ bare_found code.memory)) × (new ≡ old)))
+    (((t.code ≡ code.hit) × (new ≡ old)) ⊎ ((t ≡ found code.make t.value 0) × IsBegun {V = ℕ} words_eq key old (begun.Make t.value) new) ⊎ ((t ≡ bare_found code.wait) × IsBegun {V = ℕ} words_eq key old begun.Wait new) ⊎ (IsRefused t × (new ≡ old)))
 
 -- The making with a ticket has ended, and an entry of this value was stored and pinned, or refused;
 -- or no making has the ticket. A strict call is refused exactly if the charge would take the total
@@ -131,7 +134,7 @@ abbrev pub Readies : ℕ → ℕ → ℕ → Bool → State → LruFound → Sta
 Readies ticket charge value is_strict old t new =
     MatchBool (charge == 0) ((t ≡ bare_found code.no_charge) × (new ≡ old)) (
     MatchBool (refuses is_strict old.capacity old.seats charge) ((t ≡ bare_found code.full) × (new ≡ old))
-    (((t.code ≡ code.done) × (t.value ≡ value) × Charges charge t.place old.seats new.seats × HasEnded ticket old.makings new.makings) ⊎ ((t ≡ bare_found code.stale) × (has_number ticket old.makings ≡ false) × (new ≡ old)) ⊎ (((t ≡ bare_found code.overflow) ⊎ (t ≡ bare_found code.memory)) × HasEnded ticket old.makings new.makings)))
+    (((t.code ≡ code.done) × (t.value ≡ value) × Charges charge t.place old.seats new.seats × HasEnded ticket old.makings new.makings) ⊎ ((t ≡ bare_found code.stale) × (has_number ticket old.makings ≡ false) × (new ≡ old)) ⊎ (IsRefused t × HasEnded ticket old.makings new.makings)))
 
 -- The making with a ticket has ended; or none has it, and nothing changed. No seat changed.
 abbrev pub Fails : ℕ → State → ℕ → State → Type 0

@@ -201,7 +201,8 @@ pub extern "C" fn lru_clock_add(
 /// `GONE` if one has left, and another has to leave first: nothing is stored then, so call again.
 /// The key's entry leaves last. If it is pinned, it is invalidated instead, and to be collected
 /// after its last pin. After `DONE` and `REPLACED`, a value that is being made for the key is for
-/// its maker alone.
+/// its maker alone, and the total has grown by the charge, less that of the entry that left, if one
+/// has. After a strict call it is within the capacity.
 ///
 /// Returns `NO_CHARGE` if the charge is 0, `FULL` if the call is strict, there is too little room,
 /// and no entry can be evicted, `MEMORY` if the allocator refuses, `OVERFLOW` if a number would
@@ -219,7 +220,7 @@ pub extern "C" fn lru_clock_insert(
     left: &mut LruLeft,
 ) -> LruFound
     ensures told { OnClock clock.old.clock.held result.code clock.new.clock.held
-        (λ o n. StoresOver (words first second) charge value o result n) }
+        (λ o n. StoresOver (words first second) charge value strict o result n) }
     ensures kept { WritesLeft result.code left.old left.new }
 {
     match clock.get_mut() {

@@ -3,7 +3,7 @@
 ghost use Rattle.std.specs.Prelude.{◌≡◌, ◌==◌, ⊤, [], MatchBool, MatchOption, IfOk};
 ghost use Rattle.lru_c.specs.Clocks.{found, number_of, Adds, AreCounts, BeginsMaking, Erases};
 ghost use Rattle.lru_c.specs.Clocks.{Fails, IsLookup, LeavesAny, LeavesAt, LeavesOne, Readies};
-ghost use Rattle.lru_c.specs.Clocks.{ReleasesAt, Reserves, Stores, StoresOver, WritesLeft};
+ghost use Rattle.lru_c.specs.Clocks.{ReleasesAt, Reserves, StoresOver, WritesLeft};
 ghost use Rattle.lru_c.specs.Codes as codes;
 
 use crate::clock::reader::{Reader, told_of_lookup};
@@ -13,7 +13,7 @@ use crate::code;
 use crate::words::key::Words;
 use concurrent_lru::fit::Anything;
 use concurrent_lru::sharded::Refusal;
-use lru_clock::clock_core::{Begun, ExcessFlag, Left, Looks, MOST_PINS, PinAt, ShardState};
+use lru_clock::clock_core::{Begun, ExcessFlag, HeldOver, Left, Looks, MOST_PINS, ShardState};
 use std::alloc::{AllocError, Global};
 use std::sync::Arc;
 
@@ -112,8 +112,7 @@ impl Clock {
                 self.tell_readers();
                 LruFound::of(code::DONE, value, place)
             }
-            Err(Refusal::Memory) => LruFound::bare(code::MEMORY),
-            Err(_) => LruFound::bare(code::OVERFLOW),
+            Err(refusal) => LruFound::refused(refusal),
         }
     }
 
@@ -127,102 +126,32 @@ impl Clock {
         is_strict: bool,
         left: &mut LruLeft,
     ) -> LruFound
-        ensures inserts { StoresOver key.now charge value self.old.state result self.new.state }
+        ensures inserts { StoresOver key.now charge value is_strict self.old.state result
+            self.new.state }
         ensures kept { WritesLeft result.code left.old left.new }
     {
         if charge == 0 {
             return LruFound::bare(code::NO_CHARGE);
         }
-        // The limit is strict for this call alone.
-        self.state.is_strict = is_strict;
-        let found = self.store_over(tag_of(hash), key, charge, value, left);
-        self.state.is_strict = false;
+        let tag = tag_of(hash);
+        let found = match self
+            .entries
+            .hold_over(&mut self.state, tag, key, charge, value, is_strict)
+        {
+            Ok(HeldOver::Held(place, None)) => LruFound::of(code::DONE, value, place),
+            Ok(HeldOver::Held(place, Some(gone))) => {
+                write(gone, left);
+                LruFound::of(code::REPLACED, value, place)
+            }
+            Ok(HeldOver::Blocked(gone)) => {
+                write(gone, left);
+                LruFound::bare(code::GONE)
+            }
+            Err(Refusal::Full) => LruFound::bare(code::FULL),
+            Err(refusal) => LruFound::refused(refusal),
+        };
         self.tell_readers();
         found
-    }
-
-    // Stores an entry in place of the key's and pins it, unless another has to leave first.
-    fn store_over(
-        &mut self,
-        tag: u32,
-        key: &Words,
-        charge: u64,
-        value: u64,
-        left: &mut LruLeft,
-    ) -> LruFound
-        ensures stores { Stores key.now value self.old.state result self.new.state }
-        ensures kept { WritesLeft result.code left.old left.new }
-    {
-        match self.entries.make_way(&mut self.state, tag, key, charge) {
-            Ok(None) => {}
-            Ok(Some(evicted)) => {
-                write(evicted, left);
-                if self.state.is_above(charge) || self.state.seats.find(tag, key).is_some() {
-                    return LruFound::bare(code::GONE);
-                }
-                return match self
-                    .entries
-                    .hold_new(&mut self.state, tag, key, charge, value)
-                {
-                    Ok(place) => LruFound::of(code::REPLACED, value, place),
-                    // The next call is told why, as there is room for it.
-                    Err(_) => LruFound::bare(code::GONE),
-                };
-            }
-            Err(refusal) => return LruFound::refused(refusal),
-        }
-        self.replace(tag, key, charge, value, left)
-    }
-
-    // Stores an entry in place of the key's and pins it. No other entry leaves than the key's.
-    fn replace(
-        &mut self,
-        tag: u32,
-        key: &Words,
-        charge: u64,
-        value: u64,
-        left: &mut LruLeft,
-    ) -> LruFound
-        ensures stores { Stores key.now value self.old.state result self.new.state }
-        ensures kept { WritesLeft result.code left.old left.new }
-    {
-        let kept = match self.entries.new_entry(key, value) {
-            Ok(kept) => kept,
-            Err(refusal) => return LruFound::refused(refusal),
-        };
-        let Ok(key_copy) = kept.key.clone() else {
-            return LruFound::bare(code::MEMORY);
-        };
-        let (stored, gone) = self
-            .entries
-            .replace(&mut self.state, tag, key, charge, kept, key_copy);
-        match stored {
-            Ok(PinAt { place, pin }) => {
-                // Never refused: nobody else has held the new entry.
-                let _ = self.entries.hold_at(place);
-                let _ = pin.release();
-                self.state.makings.invalidate(key);
-                self.state.counts.insertions = self.state.counts.insertions.wrapping_add(1);
-                match gone {
-                    Some(gone) => {
-                        write(gone, left);
-                        LruFound::of(code::REPLACED, value, place)
-                    }
-                    None => LruFound::of(code::DONE, value, place),
-                }
-            }
-            Err((refusal, refused)) => {
-                drop(refused.into_parts());
-                match gone {
-                    // Never happens, as `Core::replace` says.
-                    Some(gone) => {
-                        write(gone, left);
-                        LruFound::bare(code::GONE)
-                    }
-                    None => LruFound::refused(refusal),
-                }
-            }
-        }
     }
 
     // Pins the entry of a key.
@@ -247,8 +176,7 @@ impl Clock {
             Ok(Begun::Make(ticket)) => LruFound::of(code::MAKE, ticket, 0),
             Ok(Begun::Wait) => LruFound::bare(code::WAIT),
             Ok(Begun::Hit(place, value)) => LruFound::of(code::HIT, value, place),
-            Err(Refusal::Memory) => LruFound::bare(code::MEMORY),
-            Err(_) => LruFound::bare(code::OVERFLOW),
+            Err(refusal) => LruFound::refused(refusal),
         }
     }
 
@@ -278,8 +206,7 @@ impl Clock {
                 LruFound::of(code::DONE, value, place)
             }
             Ok(None) => LruFound::bare(code::STALE),
-            Err(Refusal::Memory) => LruFound::bare(code::MEMORY),
-            Err(_) => LruFound::bare(code::OVERFLOW),
+            Err(refusal) => LruFound::refused(refusal),
         }
     }
 

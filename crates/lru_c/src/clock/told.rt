@@ -34,15 +34,14 @@ impl LruFound {
         LruFound::of(code, 0, 0)
     }
 
-    // Returns the answer of an insert that was refused, never with `Stale`.
+    // Returns the answer of a call that was refused, never with `Stale` nor by a strict limit.
     pub(crate) fn refused(refusal: Refusal) -> LruFound
         ensures { IsRefused result }
     {
-        LruFound::bare(match refusal {
-            Refusal::Memory => code::MEMORY,
-            Refusal::Full => code::FULL,
-            _ => code::OVERFLOW,
-        })
+        match refusal {
+            Refusal::Memory => LruFound::bare(code::MEMORY),
+            _ => LruFound::bare(code::OVERFLOW),
+        }
     }
 
     // Returns a number.
