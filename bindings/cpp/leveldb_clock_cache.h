@@ -10,9 +10,9 @@
 // Lookup and Release take no lock: each thread finds entries by readers of its own, one for each
 // shard. They are made by its first call on the shard, under the shard's mutex, and stay for a
 // later thread when it ends. These still take the mutex of a shard: Insert and Erase; the last
-// Release of an entry that was erased or replaced, and each Release while pinned entries keep the
-// total above the capacity, as it evicts then; and a thread for which there is no memory for a
-// reader. An entry is one object on the heap, whose address is the handle.
+// Release of an entry that was erased or replaced, or while the total is above the capacity, as it
+// evicts then; and a thread for which there is no memory for a reader. An entry is one object on
+// the heap, whose address is the handle.
 //
 // It has shards as LevelDBBlockCache of leveldb_cache.h has, but chooses another one for a key. In
 // what it does it is as that cache, except for this:
@@ -71,7 +71,7 @@ class LevelDBClockCache : public leveldb::Cache, public detail::LevelDBMaking<Le
       Blocks::Call call(&blocks_, hashed.shard);
       const bool has_room = call.MakeRoom(weight);
       call.Add(hashed, entry, weight);
-      if (!has_room) call.SetAbove();
+      if (!has_room) call.MakeRoom(0);
     }
     return HandleOf(entry);
   }

@@ -15,13 +15,12 @@
 //   - A value counts once it has been made: values are evicted for it then, and not before `init`
 //     runs. Its charge is that of the call that made it.
 //   - A strict limit may refuse a value once it was made, if others took its room meanwhile. Values
-//     are evicted before one is refused, and before `init` runs too: only then it is known that all
-//     that is left is pinned.
+//     are evicted before one that is made is refused, and before `init` runs too: only then it is
+//     known that all that is left is pinned.
 //   - A caller that waits for a value makes one of its own if the key is taken away meanwhile, or
 //     if the value is evicted at once.
 //   - `read` calls its function without the lock. `contains` is a use of the value. No call tells
 //     how many handles a value has.
-//   - An `insert` for which there is no memory may leave the key without a value.
 //   - `stats` counts what is made, added and evicted, but no hits, misses and waits.
 //   - There is no advice_evict or release_and_evict, and no hash of the program's own.
 //
@@ -85,13 +84,16 @@ struct ClockNode {
   template <class... Args>
   explicit ClockNode(std::in_place_t, Args&&... args) : value(std::forward<Args>(args)...) {}
 
+  // Whether its key finds it, as long as it is in the cache.
+  bool is_listed() const noexcept { return reason == Reason::kEvicted; }
+
   Value value;
   Words key = {};
   // The lock of the shard protects these.
   Reason reason = Reason::kEvicted;  // why it leaves, now or later
   union {
-    std::uint64_t charge = 0;  // 0 once its key no longer finds it
-    ClockNode* next;           // once it has left the cache
+    std::uint64_t charge = 0;
+    ClockNode* next;  // once it has left the cache
   };
 };
 
@@ -391,32 +393,29 @@ class alignas(64) ClockCache {
   // capacity, until the last of them is released. A value that is being made is its maker's alone;
   // those who wait for it get the new one.
   //
-  // Throws ZeroCharge, and Overflow if the charge would take the total of its shard, with the old
-  // value, above 2^64 - 1, or the old value has about 2^30 handles: nothing changes then. Throws
-  // Full if the limit is strict and there is no room for the new value; an old value that has a
-  // handle takes room too. The key keeps its old value then, but the idle ones may have been
-  // evicted. Throws std::bad_alloc if there is no memory for the value: the key may have lost its
-  // old value then, and others may have been evicted. The new one is deleted.
+  // Throws ZeroCharge; Overflow if the charge would take the total of its shard, with the old
+  // value, above 2^64 - 1, or the old value has about 2^30 handles; Full if the limit is strict and
+  // there is no room for the new value beside those that have a handle, such as the old one may
+  // have; and std::bad_alloc if there is no memory for it. The new value is deleted then, and
+  // nothing else changes: the key keeps its old value. Only if other threads take handles during
+  // the call may Full come after idle values were evicted, the old one among them.
   template <class V>
   Handle insert(Argument key, std::uint64_t charge, V&& value) {
     if (charge == 0) detail::throw_refusal(LRU_NO_CHARGE);
     auto node = std::make_unique<Node>(std::in_place, std::forward<V>(value));
     const Hashed hashed = hash(key);
+    node->key = hashed.words;
+    node->charge = charge;
     Shard& shard = shards_[hashed.shard];
     Evicted evicted(this);
     Lock lock(shard.mutex);
-    if (shard.is_strict && !make_way(&shard, hashed, charge, &evicted)) {
-      detail::throw_refusal(LRU_FULL);
-    }
-    if (charge > UINT64_MAX - shard.total()) detail::throw_refusal(LRU_OVERFLOW);
-    const bool is_awaited = detach(&shard, hashed, Reason::kReplaced, &evicted);
-    shard.make_room(charge, &evicted);
-    node->key = hashed.words;
-    node->charge = charge;
-    const lru_found found = shard.add(hashed, charge, node.get());
+    Node* const old = listed(&shard, hashed, &evicted);
+    const lru_found found = shard.insert(hashed, charge, node.get(), &evicted);
+    if (found.code != LRU_DONE) detail::throw_refusal(found.code);
+    if (old != nullptr) old->reason = Reason::kReplaced;
+    const bool is_awaited = take_from_maker(shard, hashed.words);
     lock.unlock();
     if (is_awaited) shard.ended.notify_all();
-    if (found.code != LRU_DONE) detail::throw_refusal(found.code);
     return Handle(this, node.release(), found.place, hashed.shard);
   }
 
@@ -765,7 +764,7 @@ class alignas(64) ClockCache {
     shard.load_nanoseconds += time;
     shard.make_room(maker->charge_, &evicted);
     made->key = key.words;
-    made->charge = maker->is_detached_ ? 0 : maker->charge_;
+    made->charge = maker->charge_;
     if (maker->is_detached_) made->reason = Reason::kInvalidated;
     const lru_found found = lru_clock_ready(&shard.clock, maker->ticket_, key.hash, maker->charge_,
                                             detail::word_of(made.get()), shard.is_strict);
@@ -835,45 +834,29 @@ class alignas(64) ClockCache {
     return lru_clock_begin(&shard->clock, key.hash, key.words.first, key.words.second, charge);
   }
 
-  // Makes room under a strict limit for a value that takes the place of the key's, and returns
-  // whether there is any. The key's value is room too unless it has a handle. It leaves last, and
-  // stays if even without it there is too little.
-  static bool make_way(Shard* shard, const Hashed& key, std::uint64_t charge,
-                       Evicted* evicted) noexcept {
-    if (shard->has_room(charge)) return true;
-    if (charge > shard->capacity()) return false;
-    const lru_found old = shard->find(key);
-    if (old.code == LRU_HIT) {
-      // It is pinned meanwhile, and stays until the lock is released if others have pinned it.
-      Node* const node = node_of(old);
-      const std::uint64_t own = node->charge;
-      shard->make_room(charge - std::min(charge, own), evicted);
-      if (!shard->has_room(charge, own)) {
-        shard->unpin(old.place, evicted);
-        return false;
-      }
-      node->reason = Reason::kReplaced;
-      if (shard->unpin_and_evict(old.place, evicted)) return true;
-      node->reason = Reason::kEvicted;
-    }
-    shard->make_room(charge, evicted);
-    return shard->has_room(charge);
+  // The node of a key's value, or null. It stays until the lock is released, also if a call takes
+  // the value out meanwhile: it is in `evicted` then.
+  static Node* listed(Shard* shard, const Hashed& key, Evicted* evicted) {
+    const lru_found found = shard->find(key);
+    if (found.code == LRU_MISSED) return nullptr;
+    if (found.code != LRU_HIT) detail::throw_refusal(found.code);
+    shard->unpin(found.place, evicted);
+    return node_of(found);
   }
 
-  // Takes a key's value away, and the making of one. Returns whether callers wait for that. The
-  // value is pinned meanwhile, which tells its node. Throws before anything has changed.
+  // Takes a key's value away, and the making of one. Returns whether callers wait for that. Throws
+  // before anything has changed.
   static bool detach(Shard* shard, const Hashed& key, Reason reason, Evicted* evicted) {
-    const lru_found found = shard->find(key);
-    if (found.code == LRU_HIT) {
-      node_of(found)->charge = 0;
-      node_of(found)->reason = reason;
-      shard->detach(key, found.place, evicted);
-    } else if (found.code == LRU_MISSED) {
-      shard->erase(key, evicted);
-    } else {
-      detail::throw_refusal(found.code);
-    }
-    Maker* const maker = making(*shard, key.words);
+    Node* const node = listed(shard, key, evicted);
+    if (node != nullptr) node->reason = reason;
+    shard->erase(key, evicted);
+    return take_from_maker(*shard, key.words);
+  }
+
+  // Leaves the value that is being made for a key to its maker alone. Returns whether callers wait
+  // for it.
+  static bool take_from_maker(const Shard& shard, Words key) noexcept {
+    Maker* const maker = making(shard, key);
     if (maker == nullptr) return false;
     maker->is_detached_ = true;
     return std::exchange(maker->is_awaited_, false);
@@ -895,7 +878,7 @@ class alignas(64) ClockCache {
       if (found.code == LRU_MISSED) continue;
       if (found.code != LRU_HIT) detail::throw_refusal(found.code);
       const Pinned pinned{shard, place, evicted};
-      if (node_of(found)->charge != 0) visit(*node_of(found));
+      if (node_of(found)->is_listed()) visit(*node_of(found));
     }
   }
 

@@ -152,11 +152,10 @@ class ClockBlocks {
   // Gives a handle back, and returns whether the entry has left the cache.
   bool Release(Entry* entry) {
     if (!entry->is_cached) return ReleaseUncached(entry);
-    const std::uint32_t place = entry->place();
-    Shard* const shard = &shards_[entry->shard];
-    lru_reader* const mine = shards_.mine(entry->shard);
+    const std::uint32_t place = entry->place(), shard = entry->shard;
+    lru_reader* const mine = shards_.mine(shard);
     const lru_code code = Shards::unpin(mine, place);
-    if (code == LRU_DONE && !shard->is_above) return false;
+    if (code == LRU_DONE) return false;
     return EndRelease(entry, shard, place, mine, code);
   }
 
@@ -221,9 +220,6 @@ class ClockBlocks {
  private:
   struct Shard : ClockShard<Entry> {
     std::size_t detached = 0;  // how many entries their keys do not find
-    // Whether pinned entries have kept the total above the capacity, so that releases evict. This
-    // is all that a hit reads of a shard, and it is written only when it changes.
-    alignas(64) std::atomic<bool> is_above{false};
   };
   using Shards = ClockShards<Shard>;
 
@@ -269,6 +265,10 @@ class ClockBlocks {
 
     // Adds an entry and pins it, and returns whether it takes the place of another one of the key.
     // If the library refuses it, the entry is not in the cache, and the key finds none.
+    //
+    // If there was no room, MakeRoom(0) comes after this, and after AddDetached: whoever released an
+    // entry after MakeRoom had found it pinned, and before the total was above the capacity, was not
+    // told to evict it.
     bool Add(const ClockKey& key, Entry* entry, std::uint64_t charge) {
       bool replaces = false;
       entry->is_cached = true;
@@ -286,15 +286,6 @@ class ClockBlocks {
         replaces |= Detach(key);
       }
       return replaces;
-    }
-
-    // Sets whether releases evict. Comes after each change by which the total may have come above
-    // the capacity.
-    void SetAbove() {
-      const bool is_above = shard_.total() > shard_.capacity();
-      if (shard_.is_above != is_above) shard_.is_above = is_above;
-      // A thread may have released an entry before this, and after the hand had passed it.
-      if (is_above) shard_.make_room(0, &leaving_);
     }
 
     // Adds an entry that no key finds, and pins it. The library adds one for a key that is erased
@@ -333,15 +324,14 @@ class ClockBlocks {
     // Ends what an unpin without the mutex has begun, and returns whether the entry has left. It
     // may have left before this call, and is not read.
     bool EndRelease(const Entry* entry, std::uint32_t place, lru_reader* mine, lru_code code) {
-      if (code != LRU_DONE) code = shard_.end_unpin(place, mine, code, &leaving_);
-      if (shard_.is_above) EvictAbove();
+      code = shard_.end_unpin(place, mine, code, &leaving_);
+      if (code == LRU_ABOVE) shard_.make_room(0, &leaving_);
       return code == LRU_LAST || leaving_.Has(entry);
     }
 
     // Gives a pin back, evicts the entry if that was its last one, and returns whether it has left.
     bool ReleaseAndEvict(Entry* entry) {
       shard_.unpin_and_evict(entry->place(), &leaving_);
-      if (shard_.is_above) EvictAbove();
       return leaving_.Has(entry);
     }
 
@@ -359,7 +349,6 @@ class ClockBlocks {
     template <class Capacity>
     void SetCapacity(const Capacity& capacity) {
       shard_.set_capacity(share(capacity(), blocks_.count()), &leaving_);
-      SetAbove();
     }
 
     // Deletes an entry that is not in the cache, without the mutex.
@@ -369,11 +358,6 @@ class ClockBlocks {
 
    private:
     friend ClockBlocks;
-
-    void EvictAbove() {
-      shard_.make_room(0, &leaving_);
-      SetAbove();
-    }
 
     void DetachFound(const ClockKey& key, const lru_found& found) {
       node_of<Entry>(found.value)->SetDetached(true);
@@ -418,7 +402,7 @@ class ClockBlocks {
     return true;
   }
 
-  [[gnu::cold, gnu::noinline]] bool EndRelease(const Entry* entry, Shard* shard,
+  [[gnu::cold, gnu::noinline]] bool EndRelease(const Entry* entry, std::uint32_t shard,
                                                std::uint32_t place, lru_reader* mine,
                                                lru_code code) const {
     return Call(this, shard).EndRelease(entry, place, mine, code);

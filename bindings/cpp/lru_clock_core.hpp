@@ -201,10 +201,26 @@ struct alignas(64) ClockShard {
                          is_strict);
   }
 
-  // Whether the capacity has room for another charge, once one of the charges has gone.
-  bool has_room(std::uint64_t charge, std::uint64_t gone = 0) noexcept {
+  // Makes room for a value, and pins it as the key's, in place of the one that the key has:
+  // LRU_DONE.
+  template <class Evicted>
+  lru_found insert(const ClockKey& key, std::uint64_t charge, Node* node,
+                   Evicted* evicted) noexcept {
+    lru_left left;
+    lru_found found;
+    do {
+      found = lru_clock_insert(&clock, key.hash, key.words.first, key.words.second, charge,
+                               word_of(node), is_strict, &left);
+      if (found.code == LRU_GONE || found.code == LRU_REPLACED) take(left, evicted);
+    } while (found.code == LRU_GONE);
+    if (found.code == LRU_REPLACED) found.code = LRU_DONE;
+    return found;
+  }
+
+  // Whether the capacity has room for another charge.
+  bool has_room(std::uint64_t charge) noexcept {
     const std::uint64_t room = capacity();
-    return charge <= room && total() - gone <= room - charge;
+    return charge <= room && total() <= room - charge;
   }
 
   // Evicts until there is room for another charge, or all that is left is pinned. Evicts nothing
@@ -259,13 +275,11 @@ struct alignas(64) ClockShard {
     if (lru_reader_unpin(&reader, place) == LRU_LAST) collect(place, evicted);
   }
 
-  // Gives a pin back, and takes out the value if that was its last pin, which it returns.
+  // Gives a pin back, and takes out the value if that was its last pin.
   template <class Evicted>
-  bool unpin_and_evict(std::uint32_t place, Evicted* evicted) noexcept {
+  void unpin_and_evict(std::uint32_t place, Evicted* evicted) noexcept {
     lru_left left;
-    const bool is_last = lru_clock_release_and_evict(&clock, place, &left) == LRU_GONE;
-    if (is_last) take(left, evicted);
-    return is_last;
+    if (lru_clock_release_and_evict(&clock, place, &left) == LRU_GONE) take(left, evicted);
   }
 
   // Ends what an unpin without the mutex has begun, which answered with this code: gives the pin

@@ -12,9 +12,9 @@
 // Lookup, Ref and Release take no lock: each thread finds entries by readers of its own, one for
 // each shard. They are made by its first call on the shard, under the shard's mutex, and stay for a
 // later thread when it ends. These still take the mutex of a shard: Insert and Erase; the last
-// Release of an entry that was erased or replaced; Release with erase_if_last_ref, and each Release
-// while pinned entries keep the total above the capacity, as it evicts then; and a thread for which
-// there is no memory for a reader. An entry is one object on the heap, whose address is the handle.
+// Release of an entry that was erased or replaced, or while the total is above the capacity, as it
+// evicts then; Release with erase_if_last_ref; and a thread for which there is no memory for a
+// reader. An entry is one object on the heap, whose address is the handle.
 //
 // In what it does it is as the caches of rocksdb_cache.h, except for this:
 //
@@ -177,7 +177,7 @@ class RocksDBClockCache
       return rocksdb::Status::OK();
     }
     const bool replaces = call.Add(hashed, entry, weight);
-    if (!has_room) call.SetAbove();
+    if (!has_room) call.MakeRoom(0);
     if (handle != nullptr) {
       *handle = HandleOf(entry);
     } else if (entry->is_cached) {
@@ -201,7 +201,7 @@ class RocksDBClockCache
     const bool is_strict = is_strict_;
     const bool has_room = call.MakeRoom(weight);
     if (has_room || !is_strict) call.AddDetached(entry, weight);
-    if (!has_room) call.SetAbove();
+    if (!has_room) call.MakeRoom(0);
     if (!entry->is_cached) {
       if (is_strict && !allow_uncharged) {
         Refuse(entry);

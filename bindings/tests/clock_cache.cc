@@ -2,7 +2,7 @@
 // wait; that nothing is lost where memory is refused; and a stress of eight threads, in which each
 // value must be deleted once, none while it is held, and none be found under another key.
 //
-// The linker puts the functions below before those of the C library (--wrap).
+// The linker puts the functions below before those of the C library and of lru.h (--wrap).
 #include <pthread.h>
 #include <sys/wait.h>
 #include <unistd.h>
@@ -47,6 +47,21 @@ void* __real_realloc(void* block, std::size_t size);
 void* __wrap_malloc(std::size_t size) { return is_refused() ? nullptr : __real_malloc(size); }
 void* __wrap_realloc(void* block, std::size_t size) {
   return is_refused() ? nullptr : __real_realloc(block, size);
+}
+}
+
+// Is called before each lru_clock_insert, if it is not empty, with what has left in the one before.
+static std::function<void(const lru_left&)> before_insert;
+
+extern "C" {
+lru_found __real_lru_clock_insert(lru_clock* clock, std::uint64_t hash, std::uint64_t first,
+                                  std::uint64_t second, std::uint64_t charge, std::uint64_t value,
+                                  bool strict, lru_left* left);
+lru_found __wrap_lru_clock_insert(lru_clock* clock, std::uint64_t hash, std::uint64_t first,
+                                  std::uint64_t second, std::uint64_t charge, std::uint64_t value,
+                                  bool strict, lru_left* left) {
+  if (before_insert) before_insert(*left);
+  return __real_lru_clock_insert(clock, hash, first, second, charge, value, strict, left);
 }
 }
 
@@ -391,6 +406,20 @@ void the_capacity_is_shared_and_set() {
   CHECK(cache.len() == 1 && cache.capacity() == 0 && *held == 1);
 }
 
+// What a listener has been told, as "key=value reason", one after another.
+struct Told {
+  void operator()(std::uint64_t key, int value, lru::Reason reason) {
+    const char* const names[] = {"evicted", "invalidated", "replaced", "cleared"};
+    text += text.empty() ? "" : ", ";
+    text += std::to_string(key) + "=" + std::to_string(value) + " ";
+    text += names[static_cast<int>(reason)];
+  }
+  // And forgets it.
+  std::string take() { return std::exchange(text, ""); }
+
+  std::string text;
+};
+
 // Whether a call throws Full.
 template <class Call>
 bool is_full(Call call) {
@@ -411,11 +440,12 @@ void a_strict_limit_has_no_room_beside_pinned_values() {
   CHECK(is_full([&] { cache.begin(3, UINT64_MAX); }));
   CHECK(is_full([&] { cache.insert(3, 11, 3); }) && is_full([&] { cache.insert(2, 11, 3); }));
   CHECK(shown(cache) == "1=1*6 2=2*2 4=4*2 ");
-  // Idle values leave before a value is refused. The old value has a handle, so it takes room.
-  CHECK(is_full([&] { cache.insert(1, 5, 3); }));
-  CHECK(shown(cache) == "1=1*6 " && *one == 1 && cache.get(1).get() == one.get());
-  CHECK(is_full([&] { cache.get_or_init(3, 5, init); }) && is_full([&] { cache.begin(3, 5); }));
-  CHECK(is_full([&] { cache.try_begin(3, 5); }) && is_full([&] { cache.insert(3, 5, 3); }));
+  // Nor does an insert that is refused. The old value has a handle, so it takes room.
+  CHECK(is_full([&] { cache.insert(1, 5, 3); }) && is_full([&] { cache.insert(3, 5, 3); }));
+  CHECK(shown(cache) == "1=1*6 2=2*2 4=4*2 " && *one == 1 && cache.get(1).get() == one.get());
+  // Idle values leave before a value that is to be made is refused.
+  CHECK(is_full([&] { cache.get_or_init(3, 5, init); }) && shown(cache) == "1=1*6 ");
+  CHECK(is_full([&] { cache.begin(3, 5); }) && is_full([&] { cache.try_begin(3, 5); }));
   CHECK(calls == 0 && shown(cache) == "1=1*6 " && !cache.get(3));
 
   // A value that is there is found, also with the lock, as by a thread that has no reader yet.
@@ -519,6 +549,25 @@ void an_insert_has_the_room_of_the_old_value() {
   CHECK(is_full([&] { cache.insert(2, 1, 3); }) && cache.get(2).get() == other.get());
   other.reset();
   CHECK(*cache.insert(2, 1, 3) == 3 && shown(cache) == "1=1*6 2=3*1 ");
+}
+
+// If other threads take handles during an insert, it may be refused after idle values have left.
+void an_insert_that_has_evicted_may_be_refused() {
+  Told told;
+  Numbers cache(10, kOne, std::ref(told), lru::Limit::kStrict);
+  for (std::uint64_t n = 1; n <= 5; n++) cache.insert(n, 2, 7);
+  int calls = 0;
+  std::uint64_t gone = 0;
+  Numbers::Handle held;
+  before_insert = [&](const lru_left& left) {
+    if (++calls != 2) return;
+    gone = left.second;
+    held = cache.get(gone == 1 ? 2 : 1);
+  };
+  CHECK(is_full([&] { cache.insert(5, 10, 8); }) && calls == 2);
+  before_insert = nullptr;
+  CHECK(told.take() == std::to_string(gone) + "=7 evicted" && !cache.get(gone));
+  CHECK(held && *held == 7 && cache.len() == 4 && cache.pinned_charge() == 2);
 }
 
 void a_strict_limit_is_that_of_each_shard() {
@@ -724,20 +773,6 @@ void a_destructor_may_call_the_cache() {
   CHECK(cache.len() == 0 && deleted == 5);
 }
 
-// What a listener has been told, as "key=value reason", one after another.
-struct Told {
-  void operator()(std::uint64_t key, int value, lru::Reason reason) {
-    const char* const names[] = {"evicted", "invalidated", "replaced", "cleared"};
-    text += text.empty() ? "" : ", ";
-    text += std::to_string(key) + "=" + std::to_string(value) + " ";
-    text += names[static_cast<int>(reason)];
-  }
-  // And forgets it.
-  std::string take() { return std::exchange(text, ""); }
-
-  std::string text;
-};
-
 void a_listener_is_told_what_leaves() {
   Told told;
   {
@@ -808,8 +843,16 @@ void a_listener_is_told_what_leaves() {
     held = cache.insert(1, 2, 1);
     CHECK(throws<lru::Overflow>([&] { cache.insert(2, UINT64_MAX, 1); }) && told.take().empty());
     held.reset();
+    cache.clear();
+    CHECK(told.take() == "1=1 cleared");
+
+    // The old value is replaced too if it is the one that is evicted for the new one.
+    held = cache.insert(1, 2, 1);
+    cache.insert(2, 1, 2);
+    cache.insert(2, 2, 3);
+    CHECK(told.take() == "2=2 replaced" && cache.total_charge() == 4);
   }
-  CHECK(told.take() == "1=1 cleared");
+  CHECK(told.take() == "1=1 cleared, 2=3 cleared");
 
   // With a strict limit: the old value is replaced if it leaves for the new one, and not if that is
   // refused.
@@ -826,7 +869,8 @@ void a_listener_is_told_what_leaves() {
     CHECK(told.take() == "1=2 evicted");
     held = cache.insert(3, 1, 3);
     cache.insert(4, 1, 4);
-    CHECK(is_full([&] { cache.insert(5, 3, 5); }) && told.take() == "4=4 evicted");
+    CHECK(is_full([&] { cache.insert(5, 3, 5); }) && told.take().empty());
+    CHECK(is_full([&] { cache.begin(5, 3); }) && told.take() == "4=4 evicted");
   }
   told.take();
 
@@ -1149,6 +1193,43 @@ long one_request_is_refused() {
   return which - 1;
 }
 
+// An insert for which there is no memory changes nothing, whatever its key has: no value, one that
+// is being made, an idle one, or one with a handle.
+void an_insert_without_memory_changes_nothing() {
+  enum Has { kNothing, kMaker, kIdle, kHeld };
+  for (const Has has : {kNothing, kMaker, kIdle, kHeld}) {
+    Told told;
+    Numbers cache(1000, kOne, std::ref(told));
+    cache.get(0);  // this makes the readers
+    int refusals = 0;
+    for (std::uint64_t n = 0; n < 200; n++) {
+      Numbers::Maker maker;
+      Numbers::Handle held;
+      if (has == kMaker) maker = cache.begin(n, 1).maker;
+      if (has == kIdle || has == kHeld) held = cache.insert(n, 1, 1);
+      if (has == kIdle) held.reset();
+      const std::string before = shown(cache);
+      const lru::ClockStats stats = cache.stats();
+      told.take();
+      // The first request is that of the value itself.
+      refused = 2;
+      const bool is_refused = throws<lru::OutOfMemory>([&] { cache.insert(n, 1, 2); });
+      CHECK(is_refused == (refused.exchange(0) == 0));
+      if (is_refused) {
+        refusals++;
+        CHECK(shown(cache) == before && told.take().empty());
+        CHECK(cache.stats().insertions == stats.insertions && cache.len() == stats.entries);
+        if (held) CHECK(cache.get(n).get() == held.get());
+        // The maker's value is its key's.
+        if (maker) CHECK(*maker.ready(3) == 3 && *cache.get(n) == 3);
+        cache.insert(n, 1, 2);
+      }
+      CHECK(*cache.get(n) == 2);
+    }
+    CHECK(refusals > 0);
+  }
+}
+
 // A thread without a reader finds, clones and releases where no memory is left at all.
 void a_thread_without_a_reader_goes_on() {
   {
@@ -1276,6 +1357,7 @@ int main() {
   a_strict_limit_has_no_room_beside_pinned_values();
   the_room_for_a_value_may_be_taken_while_it_is_made();
   an_insert_has_the_room_of_the_old_value();
+  an_insert_that_has_evicted_may_be_refused();
   a_strict_limit_is_that_of_each_shard();
   room_is_reserved_in_each_shard();
   stats_tell_what_was_made_added_and_evicted();
@@ -1296,12 +1378,13 @@ int main() {
   threads_have_numbers_and_lanes();
   a_thread_that_is_about_to_end_goes_on();
   const long requests = one_request_is_refused();
+  an_insert_without_memory_changes_nothing();
   a_thread_without_a_reader_goes_on();
   threads_use_a_cache(1);
   threads_use_a_cache(16);
   a_handle_that_outlives_its_cache_is_asserted_against();
   a_destructor_that_calls_a_cache_that_is_destroyed_is_told_the_rule();
   CHECK(requests > 100);
-  std::printf("lru_clock.hpp: 43 tests, %d checks failed\n", failed_checks);
+  std::printf("lru_clock.hpp: 45 tests, %d checks failed\n", failed_checks);
   return failed_checks == 0 ? 0 : 1;
 }

@@ -16,6 +16,7 @@
 #include <utility>
 #include <vector>
 
+#include "before_add.hpp"
 #include "check.hpp"
 #include "deleted_once.hpp"
 #include "leveldb/cache.h"
@@ -408,6 +409,27 @@ void ReleasesElsewhere() {
   CHECK(std::count(deleted.begin(), deleted.end(), '=') == 25 && cache->TotalCharge() == 25);
 }
 
+// What is released while a new entry finds no room leaves with the Insert of that one. While the
+// total is above the capacity, only the last Release of an entry takes the mutex, and evicts it.
+void EvictsWithTheLastRelease() {
+  const Tested cache(lru::NewLevelDBClockCache(10, 1), true);
+  Tested::Deleted();
+  Handle* one = cache.Insert("a", "1", 6);
+  cache.Get("a");  // this makes the readers
+  before_add = [&] { cache->Release(one); };
+  Handle* two = cache.Insert("b", "2", 6);
+  CHECK(!before_add && cache.Deleted() == "a=1 " && cache->TotalCharge() == 6);
+  Handle* three = cache.Insert("c", "3", 6);
+  CHECK(cache.Lookup("b") == two);
+  before_add = [&] { cache->Release(two); };
+  Handle* four = cache.Insert("d", "4", 6);
+  CHECK(!before_add && cache.Deleted().empty() && cache->TotalCharge() == 18);
+  for (Handle* handle : {two, three}) cache->Release(handle);
+  CHECK(cache.Deleted() == "b=2 c=3 " && cache->TotalCharge() == 6);
+  cache->Release(four);
+  CHECK(cache.Deleted().empty());
+}
+
 void Common(NewCache new_cache) {
   for (const auto test :
        {HitsAndMisses, EvictsByLastRelease, ErasesWhatIsHeld, ReplacesWhatIsHeld}) {
@@ -590,6 +612,7 @@ int main() {
   MakesHashesOfPins<lru::Words>({1, 2}, {UINT64_MAX, 0});
   MakesHashesOfPins<std::string_view>("a", "a longer key, of 27 letters");
   ReleasesElsewhere();
+  EvictsWithTheLastRelease();
   CachesBlocksOnly();
   KeepsFewBlocks();
   ChargesItsMemory();

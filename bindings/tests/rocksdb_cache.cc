@@ -20,6 +20,7 @@
 #include <utility>
 #include <vector>
 
+#include "before_add.hpp"
 #include "check.hpp"
 #include "deleted_once.hpp"
 #include "rocksdb_clock_cache.h"
@@ -877,6 +878,37 @@ void GoesOnWithoutReaders() {
   }
 }
 
+// What is released while a new entry finds no room leaves with the call that adds that one.
+void EvictsWhatIsReleasedMeanwhile() {
+  for (const bool is_standalone : {false, true}) {
+    // In 7.8 there are no such entries.
+    if (is_standalone && ROCKSDB_MAJOR == 7) continue;
+    const Tested cache = Clock(10, false);
+    Tested::Deleted();
+    Handle* one = cache.Insert("a", "1", 6);
+    cache.Get("a");  // this makes the readers
+    before_add = [&] { CHECK(!cache->Release(one)); };
+    Handle* two = is_standalone ? cache.Standalone("b", "2", 6, false) : cache.Insert("b", "2", 6);
+    CHECK(!before_add && cache.Deleted() == "a=1 " && cache.Counts(6, 6, is_standalone ? 0 : 1));
+    cache->Release(two);
+  }
+}
+
+// While the total is above the capacity, only the last Release of an entry takes the mutex, and
+// evicts the entry.
+void EvictsWithTheLastRelease() {
+  const Tested cache = Clock(10, false);
+  Tested::Deleted();
+  Handle* one = cache.Insert("a", "1", 6);
+  Handle* two = cache.Insert("b", "2", 6);
+  CHECK(cache.Get("a") == "1" && cache->Ref(one) && cache->Ref(one));
+  before_add = [&] { CHECK(!cache->Release(one)); };
+  Handle* three = cache.Insert("c", "3", 6);
+  CHECK(!before_add && !cache->Release(one) && cache.Counts(18, 18, 3));
+  CHECK(cache->Release(one) && cache->Release(two) && cache.Deleted() == "a=1 b=2 ");
+  CHECK(!cache->Release(three) && cache.Counts(6, 0, 1));
+}
+
 // The callback of ApplyToAllEntries may call the clock.
 void VisitorsMayCall() {
   const Tested cache = Clock(100, false);
@@ -1638,7 +1670,8 @@ void Threads(std::shared_ptr<Cache> cache, int count) {
   for (auto& handle : passed) {
     if (Handle* const left = handle.exchange(nullptr)) cache->Release(left);
   }
-  CHECK(cache->GetUsage() <= kThreadsCapacity + 64 && cache->GetPinnedUsage() == 0 && alive > 0);
+  // The shares of the shards are rounded up.
+  CHECK(cache->GetUsage() < cache->GetCapacity() + 64 && cache->GetPinnedUsage() == 0 && alive > 0);
   CHECK(static_cast<std::size_t>(alive) == cache->GetOccupancyCount());
   cache->EraseUnRefEntries();
   CHECK(cache->GetUsage() == 0 && cache->GetOccupancyCount() == 0 && alive == 0);
@@ -1681,6 +1714,8 @@ int main() {
   ChargesItsMemory<lru::RocksDBClockCache>();
   RefusesOtherKeys();
   GoesOnWithoutReaders();
+  EvictsWhatIsReleasedMeanwhile();
+  EvictsWithTheLastRelease();
   VisitorsMayCall();
   ExpectsEntries();
   DeletersMayResize<lru::RocksDBCache>();
