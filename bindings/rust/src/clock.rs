@@ -19,8 +19,9 @@
 //! - [`contains`](Cache::contains) counts as a use.
 //! - [`Maker::ready`] may be refused.
 //! - A strict limit ([`set_strict_limit`](Cache::set_strict_limit)) may refuse a value once it was
-//!   made, if others took its room meanwhile. Values are evicted before one is refused, and before
-//!   the making begins too: only then it is known that all that is left is pinned.
+//!   made, if others took its room meanwhile. Values are evicted before one that is made is
+//!   refused, and before the making begins too: only then it is known that all that is left is
+//!   pinned.
 //! - [`stats`](Cache::stats) counts what is made, stored and evicted, but no hits and misses.
 //! - It has no `advice_evict` and `release_and_evict`.
 //!
@@ -731,10 +732,11 @@ impl<K: WordsKey + ?Sized, V> Cache<K, V> {
     ///
     /// [`Refusal::ZeroCharge`] if `charge` is 0. [`Refusal::Overflow`] if the total of the charges
     /// of the shard, with the old value, would exceed `u64::MAX`. [`Refusal::Full`] if the limit is
-    /// strict and there is no room for the new value beside the pinned ones; an old value that has
-    /// a handle takes room too, and other values may have been evicted. The key keeps its old value
-    /// then. [`Refusal::Memory`] if there is no memory for a new entry. The key has no value then,
-    /// and values may have been evicted. The new value is dropped in each case.
+    /// strict and there is no room for the new value beside the pinned ones, such as the old one
+    /// may be. [`Refusal::Memory`] if there is no memory for a new entry. The new value is dropped
+    /// then, and nothing else changes: the key keeps its old value. Only if other threads take
+    /// handles during the call may [`Refusal::Full`] come after idle values were evicted, the old
+    /// one among them.
     ///
     /// # Examples
     ///
@@ -1018,10 +1020,11 @@ impl<K: WordsKey + ?Sized, V> Cache<K, V> {
     /// If it is, no value is stored whose charge, with the charges of the pinned values of its
     /// shard, is above the capacity of the shard: [`get_or_init`](Self::get_or_init),
     /// [`insert`](Self::insert), [`Maker::ready`] and the calls named after them return
-    /// [`Refusal::Full`]. All idle values are evicted before that, unless the charge alone is above
-    /// the capacity. A value that exists is found as before. The total is then never above the
-    /// capacity, unless it is already, or [`set_capacity`](Self::set_capacity) lowers the capacity
-    /// below the charges of the pinned values.
+    /// [`Refusal::Full`]. All idle values are evicted before that, unless the call is an `insert`
+    /// or the charge alone is above the capacity. A value that exists is found as before. The total
+    /// is then never above the capacity, unless it is already, or
+    /// [`set_capacity`](Self::set_capacity) lowers the capacity below the charges of the pinned
+    /// values.
     ///
     /// # Examples
     ///

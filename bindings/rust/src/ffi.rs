@@ -134,6 +134,7 @@ pub const PINNED: u32 = 18;
 pub const FULL: u32 = 20;
 pub const GONE: u32 = 22;
 pub const LAST: u32 = 23;
+pub const REPLACED: u32 = 24;
 pub const ABOVE: u32 = 25;
 
 pub const BYTES: u32 = 0;
@@ -205,7 +206,7 @@ unsafe extern "C" {
     ) -> Found;
     pub fn lru_clock_fail(clock: *mut Handle, ticket: u64) -> u32;
     pub fn lru_clock_make_room(clock: *mut Handle, charge: u64, left: *mut Left) -> u32;
-    pub fn lru_clock_add(
+    pub fn lru_clock_insert(
         clock: *mut Handle,
         hash: u64,
         first: u64,
@@ -213,6 +214,7 @@ unsafe extern "C" {
         charge: u64,
         value: u64,
         strict: bool,
+        left: *mut Left,
     ) -> Found;
     pub fn lru_clock_find(clock: *mut Handle, hash: u64, first: u64, second: u64) -> Found;
     pub fn lru_clock_erase(
@@ -224,7 +226,6 @@ unsafe extern "C" {
     ) -> u32;
     pub fn lru_clock_collect(clock: *mut Handle, place: u32, left: *mut Left) -> u32;
     pub fn lru_clock_prune(clock: *mut Handle, next: *mut u32, left: *mut Left) -> u32;
-    pub fn lru_clock_release_and_evict(clock: *mut Handle, place: u32, left: *mut Left) -> u32;
     pub fn lru_clock_set_capacity(clock: *mut Handle, capacity: u64) -> u32;
     pub fn lru_clock_reserve(clock: *mut Handle, entries: usize) -> u32;
     pub fn lru_clock_total(clock: *mut Handle) -> Found;

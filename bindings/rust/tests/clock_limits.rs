@@ -53,17 +53,20 @@ fn a_strict_limit_has_no_room_beside_pinned_values() -> Result<(), Refusal> {
         assert_eq!(try_init, Some(GetError::Refused(Refusal::Full)));
         assert_eq!(cache.begin(&3, charge).err(), full);
         assert_eq!(cache.try_begin(&3, charge).err(), full);
-        assert_eq!(cache.insert(&3, charge, 3).err(), full);
         cache.get_or_init(&3, charge, |_| unreachable!()).err()
     };
-    // What is above the capacity evicts nothing.
+    // What is above the capacity evicts nothing, nor does an insert that is refused. The old value
+    // has a handle, so it takes room.
     assert_eq!((is_full(11), is_full(u64::MAX)), (full, full));
-    assert_eq!(cache.insert(&2, 11, 3).err(), full);
+    for (key, charge) in [(3, 11), (2, 11), (1, 5), (3, 5)] {
+        assert_eq!(cache.insert(&key, charge, 3).err(), full);
+    }
+    let refused = cache.insert(&2, u64::MAX, 3).err();
+    assert_eq!(refused, Some(Refusal::Overflow));
     assert_eq!(shown(&cache)?, [(1, 1, 6), (2, 2, 2), (4, 4, 2)]);
-    // Idle values leave before a value is refused. The old value has a handle, so it takes room.
-    assert_eq!(cache.insert(&1, 5, 3).err(), full);
-    assert_eq!(shown(&cache)?, [(1, 1, 6)]);
+    // Idle values leave before a value that is to be made is refused.
     assert_eq!((is_full(5), cache.stats().load_failures), (full, 0));
+    assert_eq!(shown(&cache)?, [(1, 1, 6)]);
 
     // A value that is there is found, also with the lock, as by a thread that has no reader yet.
     assert_eq!(*cache.get_or_init(&1, 9, |_| unreachable!())?, 1);

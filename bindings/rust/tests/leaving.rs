@@ -1,5 +1,6 @@
 //! Tests that a listener is told of each value that leaves, and why.
 
+use std::cmp::Reverse;
 use std::panic::{self, AssertUnwindSafe};
 use std::sync::{Arc, Mutex, OnceLock, Weak};
 
@@ -15,8 +16,9 @@ fn told(left: &Left) -> Vec<Told> {
 }
 
 /// The tests of both caches. Where they stand, `new` makes a `Cache`, and `Begun` is what its
-/// `begin` returns; `Shared` is a cache with shards, if there is one of its own for that; and
-/// `LEFT` is how many values are in a cache after a call that added one has panicked.
+/// `begin` returns; `Shared` is a cache with shards, if there is one of its own for that; `LEFT` is
+/// how many values are in a cache after a call that added one has panicked; and `REPLACES_FIRST`
+/// says whether what is replaced leaves before what makes room.
 macro_rules! tests {
     () => {
         fn heard(capacity: u64) -> Result<(Cache<u64, u64>, Left), Refusal> {
@@ -41,13 +43,16 @@ macro_rules! tests {
             };
             assert_eq!(value, 10 * first);
             let other = 3 - first;
-            // What is replaced leaves before what makes room.
             cache.insert(&3, 7, 31)?;
+            let mut left_for_it = told(&left);
+            if !REPLACES_FIRST {
+                left_for_it.sort_by_key(|(key, ..)| Reverse(*key));
+            }
             let expected = [
                 (3, 30, 3, Reason::Replaced),
                 (other, 10 * other, 4, Reason::Evicted),
             ];
-            assert_eq!(told(&left), expected);
+            assert_eq!(left_for_it, expected);
             cache.invalidate(&3)?;
             cache.invalidate(&4)?;
             assert_eq!(told(&left), [(3, 31, 7, Reason::Invalidated)]);
@@ -206,6 +211,7 @@ mod exact {
     use concurrent_lru_proved::unsharded::{Begun, LruCache as Cache};
 
     const LEFT: u64 = 0;
+    const REPLACES_FIRST: bool = true;
 
     fn new<V>(capacity: u64) -> Result<Cache<u64, V>, Refusal> {
         Cache::new(capacity)
@@ -263,8 +269,10 @@ mod clock {
     use concurrent_lru_proved::clock::{Begun, Cache, Cache as Shared};
     use std::num::NonZeroUsize;
 
-    // A value is in the cache before those that it evicts leave.
+    // A value is in the cache before those that it evicts leave, and the old one leaves last,
+    // unless the clock chose it to make room.
     const LEFT: u64 = 1;
+    const REPLACES_FIRST: bool = false;
 
     fn new<V>(capacity: u64) -> Result<Cache<u64, V>, Refusal> {
         Cache::with_seed(capacity, NonZeroUsize::MIN, 0)
@@ -296,6 +304,18 @@ mod clock {
             assert_eq!(cache.insert(&3, charge, 30).err(), Some(refusal));
         }
         assert!(told(&left).is_empty());
+        Ok(())
+    }
+
+    #[test]
+    fn an_old_value_that_is_evicted_for_the_new_one_is_replaced() -> Result<(), Refusal> {
+        let (cache, left) = heard(3)?;
+        let _held = cache.insert(&1, 2, 10)?;
+        cache.insert(&2, 1, 20)?;
+        // All others are pinned.
+        cache.insert(&2, 2, 21)?;
+        assert_eq!(told(&left), [(2, 20, 1, Reason::Replaced)]);
+        assert_eq!(cache.total_charge(), 4);
         Ok(())
     }
 }

@@ -3,7 +3,7 @@
 use std::iter;
 use std::marker::PhantomData;
 use std::mem;
-use std::ptr::NonNull;
+use std::ptr::{self, NonNull};
 use std::sync::{Condvar, Mutex, MutexGuard, OnceLock};
 use std::time::Duration;
 
@@ -19,7 +19,7 @@ use crate::unsharded::unpoisoned;
 use crate::waiting::WaitList;
 
 /// A value with what a visit of all values shows of it. The library stores the address of a node,
-/// and owns it from `add` or `ready` until it tells that the entry has left.
+/// and owns it from `insert` or `ready` until it tells that the entry has left.
 pub(super) struct Node<V> {
     pub(super) value: V,
     pub(super) key: [u64; 2],
@@ -81,18 +81,10 @@ impl<'a, V> Left<'a, V> {
 
     /// Takes over the node of an entry that left.
     fn take(&mut self, left: ffi::Left) {
-        // SAFETY: the word is the address of a box that `add` or `ready` stored. The library tells
-        // each word once, and only when its entry has no pin.
+        // SAFETY: the word is the address of a box that `insert` or `ready` stored. The library
+        // tells each word once, and only when its entry has no pin.
         let node: Box<Node<V>> = unsafe { Box::from_raw(value_of(left.value).as_ptr()) };
         self.nodes.push(node);
-    }
-
-    /// The same, of an entry that left for this reason.
-    fn take_for(&mut self, left: ffi::Left, reason: Reason) {
-        self.take(left);
-        if let Some(node) = &self.nodes.0 {
-            node.detach(reason);
-        }
     }
 }
 
@@ -104,8 +96,7 @@ impl<V> Drop for Left<'_, V> {
             nodes.push(node);
         }
         if let Some(listener) = self.listener {
-            let all = iter::successors(nodes.0.as_deref(), |node| node.next.as_deref());
-            leaving::tell_all::<Words, V>(listener, all.map(Node::leaving));
+            leaving::tell_all::<Words, V>(listener, nodes.iter().map(Node::leaving));
         }
     }
 }
@@ -123,6 +114,10 @@ impl<V> Nodes<V> {
         let mut node = self.0.take()?;
         self.0 = node.next.take();
         Some(node)
+    }
+
+    fn iter(&self) -> impl Iterator<Item = &Node<V>> {
+        iter::successors(self.0.as_deref(), |node| node.next.as_deref())
     }
 }
 
@@ -355,7 +350,7 @@ impl<V> State<V> {
     ) -> Result<Turn<V>, Refusal> {
         error::room(self.makings.try_reserve(1))?;
         error::room(self.detached.try_reserve(self.makings.len() + 1))?;
-        if self.is_strict && !self.has_room(charge, 0) {
+        if self.is_strict && !self.has_room(charge) {
             if let Some(pin) = self.find(route)? {
                 return Ok(Turn::Hit(pin));
             }
@@ -363,7 +358,7 @@ impl<V> State<V> {
             let mut makings = self.makings.iter();
             if !makings.any(|making| making.route.key == route.key) {
                 self.make_room(charge, left);
-                if !self.has_room(charge, 0) {
+                if !self.has_room(charge) {
                     return Err(Refusal::Full);
                 }
             }
@@ -453,67 +448,46 @@ impl<V> State<V> {
         debug_assert_eq!(code, ffi::DONE);
     }
 
-    /// Invalidates a key, and stores a value for it, which is pinned. Also returns the making that
-    /// this has ended, if one.
+    /// Makes room for a value, and stores it in place of the one that the key has. The new value is
+    /// pinned. Also returns the making that this has ended, if one.
     pub(super) fn insert(
         &mut self,
         route: Route,
         node: Box<Node<V>>,
         left: &mut Left<'_, V>,
     ) -> (Stored<V>, Option<Making>) {
-        if self.is_strict && !self.make_way(route, node.charge, left) {
-            return (Err((Refusal::Full, node)), None);
-        }
-        if self.total().checked_add(node.charge).is_none() {
-            return (Err((Refusal::Overflow, node)), None);
-        }
-        let ended = self.erase(route, Reason::Replaced, left);
-        self.make_room(node.charge, left);
+        let old = self.listed(route, left);
         let [first, second] = route.key;
         let is_strict = self.is_strict;
         let stored = self.store(node, |clock, charge, word| {
-            // SAFETY: this state has the only copy of the handle.
-            unsafe { ffi::lru_clock_add(clock, route.hash, first, second, charge, word, is_strict) }
+            let mut gone = ffi::Left::default();
+            loop {
+                // SAFETY: this state has the only copy of the handle.
+                let found = unsafe {
+                    ffi::lru_clock_insert(
+                        clock, route.hash, first, second, charge, word, is_strict, &mut gone,
+                    )
+                };
+                if matches!(found.code, ffi::GONE | ffi::REPLACED) {
+                    left.take(gone);
+                }
+                if found.code != ffi::GONE {
+                    return found;
+                }
+            }
         });
-        self.inserted += u64::from(stored.is_ok());
-        (stored, ended)
-    }
-
-    /// Makes room under a strict limit for a value that takes the place of the key's. Returns
-    /// whether there is any. The key's value is room too unless it has a handle. It leaves last,
-    /// and stays if even without it there is too little.
-    fn make_way(&mut self, route: Route, charge: u64, left: &mut Left<'_, V>) -> bool {
-        if self.has_room(charge, 0) {
-            return true;
+        if stored.is_err() {
+            return (stored, None);
         }
-        if charge > self.capacity() {
-            return false;
-        }
-        if let Ok(Some(pin)) = self.find(route) {
-            // SAFETY: the entry is pinned, so its node stays.
-            let own = unsafe { pin.node.as_ref() }.charge;
-            self.make_room(charge.saturating_sub(own), left);
-            if !self.has_room(charge, own) {
-                self.unpin(pin.place, left);
-                return false;
-            }
-            if self.unpin_and_evict(pin.place, Reason::Replaced, left) {
-                return true;
+        if let Some(old) = old {
+            match left.nodes.iter().find(|node| ptr::eq(*node, old.as_ptr())) {
+                Some(gone) => gone.detach(Reason::Replaced),
+                // SAFETY: the entry has not left, so its node stays while the lock is held.
+                None => unsafe { old.as_ref() }.detach(Reason::Replaced),
             }
         }
-        self.make_room(charge, left);
-        self.has_room(charge, 0)
-    }
-
-    /// Gives a pin back, and takes the entry out if it was the last, which is returned.
-    fn unpin_and_evict(&mut self, place: u32, reason: Reason, left: &mut Left<'_, V>) -> bool {
-        let mut gone = ffi::Left::default();
-        // SAFETY: this state has the only copy of the handle.
-        let code = unsafe { ffi::lru_clock_release_and_evict(&mut self.clock, place, &mut gone) };
-        if code == ffi::GONE {
-            left.take_for(gone, reason);
-        }
-        code == ffi::GONE
+        self.inserted += 1;
+        (stored, self.detach_making(route, Reason::Replaced))
     }
 
     /// Stores a node by a function of the library, which is given its charge and its word.
@@ -525,7 +499,7 @@ impl<V> State<V> {
         let charge = node.charge;
         let word = word_of(Box::into_raw(node));
         let found = store(&mut self.clock, charge, word);
-        if found.code == ffi::DONE {
+        if matches!(found.code, ffi::DONE | ffi::REPLACED) {
             return Ok(Pin::of(found));
         }
         // SAFETY: the pointer is that of the box above, and the library has not stored it.
@@ -540,11 +514,9 @@ impl<V> State<V> {
         reason: Reason,
         left: &mut Left<'_, V>,
     ) -> Option<Making> {
-        // A value that cannot be pinned once more is invalidated too.
-        let found = self.find(route).ok().flatten();
-        if let Some(pin) = found {
-            // SAFETY: the entry is pinned, so its node stays.
-            unsafe { pin.node.as_ref() }.detach(reason);
+        if let Some(node) = self.listed(route, left) {
+            // SAFETY: the entry has not left, so its node stays while the lock is held.
+            unsafe { node.as_ref() }.detach(reason);
         }
         let [first, second] = route.key;
         let mut gone = ffi::Left::default();
@@ -554,9 +526,19 @@ impl<V> State<V> {
         if code == ffi::GONE {
             left.take(gone);
         }
-        if let Some(pin) = found {
-            self.unpin(pin.place, left);
-        }
+        self.detach_making(route, reason)
+    }
+
+    /// The node of a key's value, unless that cannot be pinned once more.
+    fn listed(&mut self, route: Route, left: &mut Left<'_, V>) -> Option<NonNull<Node<V>>> {
+        let pin = self.find(route).ok().flatten()?;
+        self.unpin(pin.place, left);
+        Some(pin.node)
+    }
+
+    /// Leaves the value that is being made for a key to its maker alone. Returns the making, which
+    /// this has ended.
+    fn detach_making(&mut self, route: Route, reason: Reason) -> Option<Making> {
         let mut makings = self.makings.iter();
         let place = makings.position(|making| making.route.key == route.key)?;
         let making = self.makings.swap_remove(place);
@@ -584,10 +566,10 @@ impl<V> State<V> {
         making.or(self.detached.last().map(|detached| detached.0))
     }
 
-    /// Whether the capacity has room for another charge, once one of the charges has gone.
-    fn has_room(&mut self, charge: u64, gone: u64) -> bool {
+    /// Whether the capacity has room for another charge.
+    fn has_room(&mut self, charge: u64) -> bool {
         let room = self.capacity().checked_sub(charge);
-        room.is_some_and(|room| self.total() - gone <= room)
+        room.is_some_and(|room| self.total() <= room)
     }
 
     /// Evicts entries until a charge has room, or all that are left are pinned. Evicts none for a
