@@ -47,12 +47,15 @@ void Read(const Get& get, std::uint64_t seed, std::uint64_t reads, std::uint64_t
   }
 }
 
-// What a read takes, once the cache is warm.
-template <class Get>
-Times TimesOfReads(const Get& get, std::size_t threads, std::uint64_t reads, std::uint64_t keys) {
+// What a read takes, once the cache is warm. Each thread calls `end` in the end.
+template <class Get, class End>
+Times TimesOfReads(const Get& get, std::size_t threads, std::uint64_t reads, std::uint64_t keys,
+                   const End& end) {
   Read(get, 7, reads / 4, keys);
-  return TimesOf(threads, static_cast<double>(reads),
-                 [&](std::size_t thread) { Read(get, 11 + thread, reads / threads, keys); });
+  return TimesOf(threads, static_cast<double>(reads), [&](std::size_t thread) {
+    Read(get, 11 + thread, reads / threads, keys);
+    end();
+  });
 }
 
 }  // namespace bench

@@ -58,7 +58,7 @@ double Measure(const std::string& path, leveldb::Cache* new_cache, std::size_t t
   const auto get = [&](const std::string& key, std::string* value) {
     Check(db->Get(leveldb::ReadOptions(), key, value));
   };
-  return bench::TimesOfReads(get, threads, reads, kKeys).processor;
+  return bench::TimesOfReads(get, threads, reads, kKeys, [] {}).processor;
 }
 
 void Compare(const std::string& path, std::size_t capacity, std::size_t threads, std::size_t pairs,

@@ -266,9 +266,9 @@ class ClockBlocks {
     // Adds an entry and pins it, and returns whether it takes the place of another one of the key.
     // If the library refuses it, the entry is not in the cache, and the key finds none.
     //
-    // If there was no room, MakeRoom(0) comes after this, and after AddDetached: whoever released an
-    // entry after MakeRoom had found it pinned, and before the total was above the capacity, was not
-    // told to evict it.
+    // If there was no room, MakeRoom(0) comes after this, and after AddDetached: whoever released
+    // an entry after MakeRoom had found it pinned, and before the total was above the capacity, was
+    // not told to evict it.
     bool Add(const ClockKey& key, Entry* entry, std::uint64_t charge) {
       bool replaces = false;
       entry->is_cached = true;
