@@ -57,70 +57,74 @@ inline void take_turns(Objects& cache, Exchange& exchange, std::uint64_t seed,
   for (std::uint64_t turn = 0; turn < turns; turn++) {
     const std::uint64_t n = kFixed + random.below(kKeys);
     Objects::Handle& slot = held[random.below(4)];
-    switch (random.below(32)) {
-      case 0:
-        cache.invalidate(n);
-        break;
-      case 1:
-      case 2:
-      case 3:
-        is_right(slot = cache.insert(n, 1 + random.below(3), n), n);
-        break;
-      case 4:
-        if (slot) slot = slot.clone();
-        break;
-      case 5:
-      case 6:
-      case 7:
-        slot = exchange.exchange(std::move(slot), random.below(16));
-        break;
-      case 8:
-        if (random.below(20) == 0) cache.set_capacity(kKeys / 2 + random.below(kKeys));
-        break;
-      case 9:
-        if (random.below(100) == 0) {
-          cache.for_each([](std::uint64_t key, const Once& once, std::uint64_t charge) {
-            if (once.key != key || !once.there || charge == 0) wrong++;
-          });
+    try {
+      switch (random.below(32)) {
+        case 0:
+          cache.invalidate(n);
+          break;
+        case 1:
+        case 2:
+        case 3:
+          is_right(slot = cache.insert(n, 1 + random.below(3), n), n);
+          break;
+        case 4:
+          if (slot) slot = slot.clone();
+          break;
+        case 5:
+        case 6:
+        case 7:
+          slot = exchange.exchange(std::move(slot), random.below(16));
+          break;
+        case 8:
+          if (random.below(20) == 0) cache.set_capacity(kKeys / 2 + random.below(kKeys));
+          if (random.below(20) == 0) cache.set_strict_limit(random.below(2) == 0);
+          break;
+        case 9:
+          if (random.below(100) == 0) {
+            cache.for_each([](std::uint64_t key, const Once& once, std::uint64_t charge) {
+              if (once.key != key || !once.there || charge == 0) wrong++;
+            });
+          }
+          break;
+        case 10:
+          if (random.below(100) == 0) {
+            cache.erase_if([&](std::uint64_t key, const Once& once, std::uint64_t) {
+              if (once.key != key || !once.there) wrong++;
+              return key >= kFixed && key % 16 == n % 16;
+            });
+          }
+          break;
+        case 11:
+          if (random.below(100) == 0) cache.prune();
+          break;
+        case 12: {
+          auto begun = cache.try_begin(n, 1);
+          if (begun.maker && random.below(2) == 0) begun.handle = begun.maker.ready(n);
+          is_right(begun.handle, n);
+          break;
         }
-        break;
-      case 10:
-        if (random.below(100) == 0) {
-          cache.erase_if([&](std::uint64_t key, const Once& once, std::uint64_t) {
-            if (once.key != key || !once.there) wrong++;
-            return key >= kFixed && key % 16 == n % 16;
-          });
-        }
-        break;
-      case 11:
-        if (random.below(100) == 0) cache.prune();
-        break;
-      case 12: {
-        auto begun = cache.try_begin(n, 1);
-        if (begun.maker && random.below(2) == 0) begun.handle = begun.maker.ready(n);
-        is_right(begun.handle, n);
-        break;
+        case 13:
+          try {
+            is_right(cache.get_or_init(n, 1, fails), n);
+          } catch (const Failed&) {
+          }
+          break;
+        case 14:
+        case 15:
+        case 16:
+        case 17:
+          // These are there all the time, whatever is written beside them.
+          if (!cache.contains(n % kFixed)) wrong++;
+          break;
+        case 18:
+        case 19:
+        case 20:
+          is_right(cache.get(n), n);
+          break;
+        default:
+          is_right(slot = cache.get_or_init(n, 1 + random.below(3), makes(n)), n);
       }
-      case 13:
-        try {
-          is_right(cache.get_or_init(n, 1, fails), n);
-        } catch (const Failed&) {
-        }
-        break;
-      case 14:
-      case 15:
-      case 16:
-      case 17:
-        // These are there all the time, whatever is written beside them.
-        if (!cache.contains(n % kFixed)) wrong++;
-        break;
-      case 18:
-      case 19:
-      case 20:
-        is_right(cache.get(n), n);
-        break;
-      default:
-        is_right(slot = cache.get_or_init(n, 1 + random.below(3), makes(n)), n);
+    } catch (const lru::Full&) {
     }
     for (const Objects::Handle& handle : held) {
       if (handle && !handle->there) wrong++;

@@ -3,9 +3,9 @@
 //   soak_clock SEED [SECONDS]
 //
 // The threads look up, insert, make, erase and visit values, clone handles and pass them on, and
-// set the capacity; clock_threads.hpp says what is checked. With SECONDS, it begins again with the
-// next seed until the time is up, and prints a line a minute. Each third cache has one shard, and
-// each tenth is used for ten times as long.
+// set the capacity and whether it is a strict limit; clock_threads.hpp says what is checked. With
+// SECONDS, it begins again with the next seed until the time is up, and prints a line a minute.
+// Each third cache has one shard, and each tenth is used for ten times as long.
 //
 // Prints one line at the end. Ends with 1 at the first cache of which something is wrong.
 #include <chrono>
