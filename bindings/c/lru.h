@@ -291,10 +291,17 @@ typedef struct lru_found {
 
 /* An entry that left a clock. */
 typedef struct lru_left {
-    uint64_t first; /* the two words of its key */
-    uint64_t second;
-    uint64_t value; /* the caller's again, to be deleted */
+    uint64_t first;  /* the two words of its key; of a key of bytes the hash, */
+    uint64_t second; /* and the length */
+    uint64_t value;  /* the caller's again, to be deleted */
 } lru_left;
+
+/* A key of bytes in a clock. Each value is the address of an object that begins with one; see KEYS
+ * OF BYTES IN A CLOCK, below. */
+typedef struct lru_key {
+    const void *bytes;
+    size_t length;
+} lru_key;
 
 /* What has happened in a clock since it was opened, and what it holds. A count that passes 2^64 - 1
  * starts again at 0. Hits are not counted: a counter that all threads write would cost a hit as
@@ -576,10 +583,10 @@ bool lru_chain_is_empty(lru_chain *chain);
 
 /* ------------------------------------------------------------------------------------ the clock */
 
-/* THE CLOCK. A cache for threads whose hits take no lock. Its keys are two words, its values one.
- * It does not evict in the exact order of the last uses: each entry has up to three chances, a hit
- * adds one, and a hand that moves from entry to entry takes one away and evicts an entry that has
- * none.
+/* THE CLOCK. A cache for threads whose hits take no lock. Its keys are two words, or bytes to which
+ * its values lead (KEYS OF BYTES IN A CLOCK, below); its values are one word. It does not evict in
+ * the exact order of the last uses: each entry has up to three chances, a hit adds one, and a hand
+ * that moves from entry to entry takes one away and evicts an entry that has none.
  *
  * A clock is one shard. The caller has a mutex for it, and as many clocks as it wants shards. Each
  * thread has a reader of each clock. What may be called when:
@@ -854,6 +861,77 @@ lru_found lru_clock_capacity(lru_clock *clock);
 lru_found lru_clock_len(lru_clock *clock);
 lru_found lru_clock_places(lru_clock *clock);
 
+/* KEYS OF BYTES IN A CLOCK. The clock keeps no copy of such a key, as its value leads to it: each
+ * value is the address of an object that begins with an lru_key.
+ *
+ *     struct page {
+ *         lru_key key;
+ *         ...
+ *     };
+ *
+ *     uint64_t hash = lru_hash_bytes(url, length, seed);
+ *     lru_found found = lru_reader_pin_bytes(&reader, url, length, hash);
+ *     if (found.code == LRU_HIT) {
+ *         struct page *page = (struct page *)found.value;
+ *
+ * The calls below do what those with the same names do for keys of words. A look-up finds an entry
+ * by the hash and the length, pins it, and then compares the bytes. It needs no lock for that: the
+ * object is deleted only after its entry has left, and no entry leaves while it is pinned. In place
+ * of an `add`, call find_bytes and then insert_bytes. The calls that take no key are the same for
+ * both kinds.
+ *
+ * Two more rules, which are not checked:
+ *
+ *  9. The lru_key of a value and its bytes stay as they are while the entry is in the clock: from
+ *     the call that stores the value until the one that tells the entry in `left`.
+ * 10. The keys of a clock are all words or all bytes. These calls follow the value of whatever
+ *     entry has the hash and the length.
+ *
+ * The hash is a part of the key, as for lru_bytes_*, and comes from lru_hash_bytes or from the
+ * program (HASHES, above). A clock mixes it once more. A program with several clocks chooses among
+ * them by lru_shard_of.
+ *
+ * Keys of the same hash and the same length are told apart, but a clock has an entry of only one of
+ * them at a time: another key that is stored takes its place, and an insert or an erase of one is
+ * one of the other too, also for its maker. With a good hash of 64 bits, that happens to one pair
+ * of keys in 2^64. A look-up of the other key is told LRU_MISSED, and gives back its pin. If that
+ * was the last one of an erased or replaced entry, or while the total was above the capacity,
+ * nobody is told LRU_LAST or LRU_ABOVE: the entry leaves with a later make_room or prune.
+ *
+ * These calls are inline code over those with words. What is proved of those holds for the hash and
+ * the length. The comparison is tested. */
+
+/* As lru_reader_pin. LRU_NULL_KEY; LRU_OVERFLOW if the entry, perhaps of another key with this hash
+ * and length, has as many pins as it may have. */
+LRU_INLINE lru_found lru_reader_pin_bytes(lru_reader *reader, const void *key, size_t length,
+                                          uint64_t hash);
+
+/* As lru_clock_find. The reader is any one of the clock: it gives back the pin of another key's
+ * entry. LRU_NULL_KEY; LRU_OVERFLOW as lru_reader_pin_bytes. */
+LRU_INLINE lru_found lru_clock_find_bytes(lru_clock *clock, lru_reader *reader, const void *key,
+                                          size_t length, uint64_t hash);
+
+/* As lru_clock_insert, with the key of the value. LRU_NULL_KEY: the value is not taken. */
+LRU_INLINE lru_found lru_clock_insert_bytes(lru_clock *clock, uint64_t hash, uint64_t charge,
+                                            const lru_key *value, bool strict, lru_left *left);
+
+/* As lru_clock_begin. LRU_GONE with the entry in `left` if that of another key with this hash and
+ * length has left for this key: call again. If others have pinned that entry, it is erased, even if
+ * this call is refused then. LRU_WAIT may be for the making of such a key. LRU_NULL_KEY. `left` is
+ * written with LRU_GONE only. */
+LRU_INLINE lru_found lru_clock_begin_bytes(lru_clock *clock, const void *key, size_t length,
+                                           uint64_t hash, uint64_t charge, lru_left *left);
+
+/* As lru_clock_ready: the hash is that of begin, and the value has the key of begin. LRU_NULL_KEY:
+ * the making goes on. */
+LRU_INLINE lru_found lru_clock_ready_bytes(lru_clock *clock, uint64_t ticket, uint64_t hash,
+                                           uint64_t charge, const lru_key *value, bool strict);
+
+/* As lru_clock_erase. Takes no bytes: whichever key with this hash and length has an entry loses
+ * it. */
+LRU_INLINE lru_code lru_clock_erase_bytes(lru_clock *clock, size_t length, uint64_t hash,
+                                          lru_left *left);
+
 /* -------------------------------------------------------------- the functions behind some calls */
 
 /* The functions behind the calls above that take a key of bytes or a buffer. The pointer must not
@@ -903,11 +981,14 @@ LRU_INLINE lru_code lru_words_invalidate(lru_cache *cache, uint64_t first, uint6
     return lru_words_evict(cache, first, second, true, gone);
 }
 
-/* In C++, casts of C are reported by -Wold-style-cast. */
+/* In C++, casts of C are reported by -Wold-style-cast. The second one is between an address and a
+ * word. */
 #ifdef __cplusplus
 #define LRU_CAST(type, value) static_cast<type>(value)
+#define LRU_RECAST(type, value) reinterpret_cast<type>(value)
 #else
 #define LRU_CAST(type, value) ((type)(value))
+#define LRU_RECAST(type, value) ((type)(value))
 #endif
 
 /* Parts of the functions that hash; these names are internal. A product of two words, whose halves
@@ -1025,7 +1106,96 @@ LRU_INLINE lru_told lru_cache_entries(lru_cache *cache, lru_entry *out, size_t r
     return lru_cache_entries_nonnull(cache, out, room);
 }
 
+/* Parts of the calls on a clock with keys of bytes; these names are internal. The hash for the
+ * clock, which uses its upper half; whether a call passes a null key, and whether the value of a
+ * pinned entry has a key; and the answer of a look-up, which gives back the pin of another key's
+ * entry. */
+static inline uint64_t lru_clock_mixed(uint64_t hash) {
+    return lru_hash_multiply(hash, 0x9e3779b97f4a7c05);
+}
+
+static inline bool lru_key_is_null(const void *key, size_t length) {
+    return key == NULL && length > 0;
+}
+
+static inline bool lru_value_has_key(uint64_t value, const void *key, size_t length) {
+    const lru_key *own = LRU_RECAST(const lru_key *, value);
+    return own->length == length && (length == 0 || memcmp(own->bytes, key, length) == 0);
+}
+
+static inline lru_found lru_found_bare(lru_code code) {
+    lru_found found = {0, code, 0};
+    return found;
+}
+
+static inline lru_found lru_found_of_key(lru_reader *reader, lru_found found, const void *key,
+                                         size_t length) {
+    if (found.code != LRU_HIT || lru_value_has_key(found.value, key, length))
+        return found;
+    lru_reader_unpin(reader, found.place);
+    return lru_found_bare(LRU_MISSED);
+}
+
+LRU_INLINE lru_found lru_reader_pin_bytes(lru_reader *reader, const void *key, size_t length,
+                                          uint64_t hash) {
+    lru_found found;
+    if (lru_key_is_null(key, length))
+        return lru_found_bare(LRU_NULL_KEY);
+    found = lru_reader_pin(reader, lru_clock_mixed(hash), hash, length);
+    return lru_found_of_key(reader, found, key, length);
+}
+
+LRU_INLINE lru_found lru_clock_find_bytes(lru_clock *clock, lru_reader *reader, const void *key,
+                                          size_t length, uint64_t hash) {
+    lru_found found;
+    if (lru_key_is_null(key, length))
+        return lru_found_bare(LRU_NULL_KEY);
+    found = lru_clock_find(clock, lru_clock_mixed(hash), hash, length);
+    return lru_found_of_key(reader, found, key, length);
+}
+
+LRU_INLINE lru_found lru_clock_insert_bytes(lru_clock *clock, uint64_t hash, uint64_t charge,
+                                            const lru_key *value, bool strict, lru_left *left) {
+    if (lru_key_is_null(value->bytes, value->length))
+        return lru_found_bare(LRU_NULL_KEY);
+    return lru_clock_insert(clock, lru_clock_mixed(hash), hash, value->length, charge,
+                            LRU_RECAST(uint64_t, value), strict, left);
+}
+
+LRU_INLINE lru_found lru_clock_begin_bytes(lru_clock *clock, const void *key, size_t length,
+                                           uint64_t hash, uint64_t charge, lru_left *left) {
+    const uint64_t mixed = lru_clock_mixed(hash);
+    lru_found found;
+    lru_code code;
+    if (lru_key_is_null(key, length))
+        return lru_found_bare(LRU_NULL_KEY);
+    found = lru_clock_begin(clock, mixed, hash, length, charge);
+    if (found.code != LRU_HIT || lru_value_has_key(found.value, key, length))
+        return found;
+    /* The entry of another key leaves, or is no longer found if others have pinned it. */
+    code = lru_clock_release_and_evict(clock, found.place, left);
+    if (code != LRU_GONE)
+        code = lru_clock_erase(clock, mixed, hash, length, left);
+    if (code == LRU_GONE)
+        return lru_found_bare(LRU_GONE);
+    return lru_clock_begin(clock, mixed, hash, length, charge);
+}
+
+LRU_INLINE lru_found lru_clock_ready_bytes(lru_clock *clock, uint64_t ticket, uint64_t hash,
+                                           uint64_t charge, const lru_key *value, bool strict) {
+    if (lru_key_is_null(value->bytes, value->length))
+        return lru_found_bare(LRU_NULL_KEY);
+    return lru_clock_ready(clock, ticket, lru_clock_mixed(hash), charge,
+                           LRU_RECAST(uint64_t, value), strict);
+}
+
+LRU_INLINE lru_code lru_clock_erase_bytes(lru_clock *clock, size_t length, uint64_t hash,
+                                          lru_left *left) {
+    return lru_clock_erase(clock, lru_clock_mixed(hash), hash, length, left);
+}
+
 #undef LRU_CAST
+#undef LRU_RECAST
 
 #ifdef __cplusplus
 }
