@@ -1221,7 +1221,10 @@ void an_insert_without_memory_changes_nothing() {
         CHECK(cache.stats().insertions == stats.insertions && cache.len() == stats.entries);
         if (held) CHECK(cache.get(n).get() == held.get());
         // The maker's value is its key's.
-        if (maker) CHECK(*maker.ready(3) == 3 && *cache.get(n) == 3);
+        if (maker) {
+          CHECK(*maker.ready(3) == 3 && *cache.get(n) == 3);
+          CHECK(shown(cache).find("=3*1 ") != std::string::npos);
+        }
         cache.insert(n, 1, 2);
       }
       CHECK(*cache.get(n) == 2);

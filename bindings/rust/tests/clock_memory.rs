@@ -113,6 +113,7 @@ fn an_insert_without_memory_changes_nothing() -> Result<(), Refusal> {
                     // Its value is that of the key.
                     drop(maker.ready(3)?);
                     assert_eq!(cache.get(&key)?.as_deref(), Some(&3));
+                    assert!(shown(&cache)?.contains(&(key, 3)));
                 }
                 cache.insert(&key, 1, 2)?;
             }
