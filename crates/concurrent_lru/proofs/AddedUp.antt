@@ -3,3 +3,4 @@
 pub mod SizesOfSteps
 pub mod CountsOfSteps
 pub mod CountsOfInserts
+pub mod CountsOfCharges

@@ -9,6 +9,7 @@ pub mod LawfulAfterLeaving
 pub mod BeginOfAbsent
 pub mod BeginOfHeld
 pub mod ReadyAndPoll
+pub mod ChargeOfMaking
 pub mod PollWithoutChange
 pub mod Release
 pub mod AdviceOfAbsent
@@ -23,6 +24,7 @@ pub mod EmptyCache
 pub mod StaysLawful
 pub mod StaysAttached
 pub mod StrictSteps
+pub mod ToldCharges
 pub mod ReadyValues
 pub mod ValuesRead
 pub mod ValuesInserted

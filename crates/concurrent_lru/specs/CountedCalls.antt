@@ -1,13 +1,13 @@
 -- How each call on a cache changes its counts, depending on its request and outcome, and that the
 -- counts add up.
-use Rattle.std.specs.Prelude.{◌≡◌, ℕ, ◌+◌, ◌*◌, ◌<◌, ◌≤◌, ◌^◌, Bool, false, cond, List, length, ◌==◌, Option, Some, None, Result, Ok, Err, refl}
+use Rattle.std.specs.Prelude.{◌≡◌, ℕ, ◌+◌, ◌*◌, ◌<◌, ◌≤◌, ◌^◌, Bool, cond, List, length, ◌==◌, Option, Some, None, Result, Ok, Err, refl}
 use Rattle.std.specs.Option.{option_map_or}
 use Rattle.std.specs.Coded.{Coded, code_by, coded×, coded_bool}
 use Rattle.std.specs.declared.sync.Arc.{Arc}
 use Rattle.std.specs.declared.alloc.Global.{Global}
 use Rattle.concurrent_lru.specs.Cache.{Cache, Idle, charges, held_at, sum_of, count_of, cache_code, IsLawful}
 use Rattle.concurrent_lru.specs.Ready.{ValuesFit}
-use Rattle.concurrent_lru.specs.Counts.{counts_code, end_of_u64, inserted, one_failure, one_hit, one_making, one_miss, one_refusal, one_wait, removed, entries_in, charge_in}
+use Rattle.concurrent_lru.specs.Counts.{counts_code, end_of_u64, inserted, recharged, one_failure, one_hit, one_making, one_miss, one_refusal, one_wait, removed, entries_in, charge_in}
 use Rattle.concurrent_lru.specs.Request as ask
 use Rattle.concurrent_lru.specs.Request.{Request}
 use Rattle.concurrent_lru.specs.Reply as say
@@ -26,18 +26,6 @@ pub record LockedCache (K V : Type 0) : Type 0 where
   pub strict : Bool
 
 module _ {V : Type 0} where
-  -- the counts after a begin with this answer, apart from an insertion
-  abbrev counted_begun : Begun (Arc V Global) → Counts → Counts
-  counted_begun (begun.Make s) n = one_making (one_miss n)
-  counted_begun (begun.Wait s) n = one_wait n
-  counted_begun (begun.Hit s a) n = one_hit n
-
-  -- whether the answer is to make the value of the entry with this stamp
-  abbrev has_stamp_to_make : Begun (Arc V Global) → ℕ → Bool
-  has_stamp_to_make (begun.Make s) t = s == t
-  has_stamp_to_make (begun.Wait s) t = false
-  has_stamp_to_make (begun.Hit s a) t = false
-
   -- the counts after a poll with this result
   abbrev pub counted_poll : Result (Begun (Arc V Global)) Refusal → Counts → Counts
   counted_poll (Ok (begun.Make s)) n = one_making n
@@ -89,6 +77,11 @@ module _ {K V : Type 0} where
   counted c (ask.begin_strictly k charge) (refused e) n = one_refusal n
   counted c (ask.poll s) (accepted (say.make t) out) n = one_making n
   counted c (ask.poll s) (refused Memory) n = one_refusal n
+  counted c (ask.ready_with s v charge) (accepted p out) n = evicted out (recharged (held_charge c s) charge n)
+  counted c (ask.ready_with s v charge) (refused Overflow) n = one_refusal n
+  counted c (ask.ready_with_strictly s v charge) (accepted p out) n = evicted out (recharged (held_charge c s) charge n)
+  counted c (ask.ready_with_strictly s v charge) (refused Overflow) n = one_refusal n
+  counted c (ask.ready_with_strictly s v charge) (refused Full) n = one_refusal n
   counted c (ask.get k) (accepted (say.hit s v) out) n = one_hit n
   counted c (ask.get k) (accepted say.missed out) n = one_miss n
   counted c (ask.get k) (refused e) n = one_refusal n
@@ -121,6 +114,8 @@ module _ {K V : Type 0} where
     pub stamps : c.next < 2 ^ 64
     pub entries_fit : entries_in n ≤ c.next
     pub charge_fits : charge_in n ≤ c.next * end_of_u64
+    -- each entry left with a charge that fits a u64
+    pub gone_fits : n.evicted_charge + n.removed_charge ≤ (n.evictions + n.removals) * end_of_u64
 
   -- a lawful cache, and counts that add up to it
   pub record IsSoundlyCounted (E : K → K → Bool) (c : Cache K V) (n : Counts) : Type 0 where
@@ -131,16 +126,6 @@ module _ {K V : Type 0} where
   pub record IsSoundUnderLock (E : K → K → Bool) (fits : K → V → Type 0) (c : Cache K V) (n : Counts) : Type 0 where
     pub counted : IsSoundlyCounted E c n
     pub kept : ValuesFit fits c
-
-  -- the counts after a begin with this result, apart from an insertion
-  abbrev pub counted_begin : Result (Begun (Arc V Global) × List (Idle K V)) Refusal → Counts → Counts
-  counted_begin (Ok r) n = counted_begun r.0 n
-  counted_begin (Err e) n = one_refusal n
-
-  -- whether a begin inserted an entry, that is, is to make the value under the next stamp
-  abbrev pub is_insertion : Result (Begun (Arc V Global) × List (Idle K V)) Refusal → ℕ → Bool
-  is_insertion (Ok r) next = has_stamp_to_make r.0 next
-  is_insertion (Err e) next = false
 
 -- the counts after a lookup with this result
 abbrev pub counted_look : {T : Type 0} → Result (Option T) Refusal → Counts → Counts

@@ -41,6 +41,11 @@ inserted charge n = record n { insertions = n.insertions + 1; inserted_charge = 
 abbrev pub removed : ℕ → Counts → Counts
 removed charge n = record n { removals = n.removals + 1; removed_charge = n.removed_charge + charge }
 
+-- The counts after the charge of an entry became another. It is that of an entry inserted since the
+-- counting began, as far as those have so much.
+abbrev pub recharged : ℕ → ℕ → Counts → Counts
+recharged was charge n = record n { inserted_charge = n.inserted_charge + charge - was; charge_before = n.charge_before - (was - (n.inserted_charge + charge)) }
+
 -- no calls yet, on a cache with this many entries of this total charge
 abbrev pub counts_from : ℕ → ℕ → Counts
 counts_from entries charge = record {

@@ -1,6 +1,6 @@
 -- The view of a `Table`: its idle and held entries, and the stamp of the entry at each place, with
 -- the address of its node. What each of its calls changes.
-use Rattle.std.specs.Prelude.{◌≡◌, ◌≢◌, ℕ, ◌+◌, ◌++◌, ◌∷◌, [], Bool, true, false, List, Option, IsSome, Some, refl}
+use Rattle.std.specs.Prelude.{◌≡◌, ◌≢◌, ℕ, ◌+◌, ◌<◌, ◌^◌, ◌++◌, ◌∷◌, [], Bool, true, false, List, IsSome, Some, refl}
 use Rattle.std.specs.Option.{option_map_or}
 use Rattle.std.specs.Ordering.{nat_cmp}
 use Rattle.std.specs.Coded.{Coded, code_by, coded×, coded_ℕ, coded_list}
@@ -109,6 +109,10 @@ module _ {K V : Type 0} where
     pub held : held_at (cache_of old) stamp ≡ Some entry
     pub changed : new ≡ record old { held = finmap.insert old.held stamp (f entry) }
 
+  -- if the held entry at the place had this charge, the sum would fit a u64
+  abbrev pub FitsAt : Entries K V → ℕ → ℕ → Type 0
+  FitsAt t p charge = (s : ℕ) (e : Held K V) → finmap.get t.stamps p ≡ Some s → held_at (cache_of t) s ≡ Some e → charges_of t + charge < 2 ^ 64 + e.charge
+
   abbrev pub held_with_pins : ℕ → Held K V → Held K V
   held_with_pins n e = record e { pins = n }
 
@@ -134,6 +138,16 @@ module _ {K V : Type 0} where
   pub record RestsAt (old : Entries K V) (p : ℕ) (new : Entries K V) : Type 0 where
     pub was : IsReadyAt old p
     pub changed : new ≡ record old { idle = old.idle ++ idle_again was.stamp was.entry was.value ∷ []; held = finmap.remove old.held was.stamp; work = old.work + 1 }
+
+  -- the idle entry at the place leaves
+  pub record EvictsAt (old : Entries K V) (p : ℕ) (out : List (Idle K V)) (new : Entries K V) : Type 0 where
+    pub stamp : ℕ
+    pub entry : Idle K V
+    pub at : finmap.get old.stamps p ≡ Some stamp
+    pub idle : idle_at (cache_of old) stamp ≡ Some entry
+    pub left : new.idle ≡ without stamp old.idle
+    pub held : new.held ≡ old.held
+    pub one : out ≡ entry ∷ []
 
   -- a new entry is added, under a copy of the key k
   pub record AddsNew (E : K → K → Bool) (old : Entries K V) (s : ℕ) (k : K) (m : ℕ) (new : Entries K V) : Type 0 where

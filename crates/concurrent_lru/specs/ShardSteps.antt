@@ -32,6 +32,8 @@ module _ {K V : Type 0} where
   shard_of_step route (shard.Read k) = route k
   shard_of_step route (shard.Poll i s) = i
   shard_of_step route (shard.Ready i s a) = i
+  shard_of_step route (shard.ReadyWith i s a c) = i
+  shard_of_step route (shard.ReadyWithStrictly i s a c) = i
   shard_of_step route (shard.Fail i s) = i
   shard_of_step route (shard.Release i s) = i
   shard_of_step route (shard.ReleaseAndEvict i s) = i
@@ -52,6 +54,8 @@ module _ {K V : Type 0} where
   step_at_shard (shard.Read k) = step.Read k
   step_at_shard (shard.Poll i s) = step.Poll s
   step_at_shard (shard.Ready i s a) = step.Ready s a
+  step_at_shard (shard.ReadyWith i s a c) = step.ReadyWith s a c
+  step_at_shard (shard.ReadyWithStrictly i s a c) = step.ReadyWithStrictly s a c
   step_at_shard (shard.Fail i s) = step.Fail s
   step_at_shard (shard.Release i s) = step.Release s
   step_at_shard (shard.ReleaseAndEvict i s) = step.ReleaseAndEvict s
@@ -71,6 +75,10 @@ module _ {K V : Type 0} where
   abbrev pub TellsNoShard : RustStep K (Arc V Global) → Answer K V ByArc (Arc V Global) → Type 0
   TellsNoShard (step.Ready s a) (answer.Back b) = b.value ≡ a.value
   TellsNoShard (step.Ready s a) _ = ⊥
+  TellsNoShard (step.ReadyWith s a c) (answer.NotReady e b) = (e ≡ Stale) × (b.value ≡ a.value)
+  TellsNoShard (step.ReadyWith s a c) _ = ⊥
+  TellsNoShard (step.ReadyWithStrictly s a c) (answer.NotReady e b) = (e ≡ Stale) × (b.value ≡ a.value)
+  TellsNoShard (step.ReadyWithStrictly s a c) _ = ⊥
   TellsNoShard (step.Insert k c a) (answer.NotInserted e b) = (e ≡ Stale) × (b.value ≡ a.value)
   TellsNoShard (step.Insert k c a) _ = ⊥
   TellsNoShard (step.InsertStrictly k c a) (answer.NotInserted e b) = (e ≡ Stale) × (b.value ≡ a.value)

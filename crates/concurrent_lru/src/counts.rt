@@ -3,7 +3,7 @@
 //! They are plain numbers, kept beside the cache under its lock.
 ghost use Rattle.std.specs.Prelude.{◌≡◌, ◌+◌, ◌-◌, ◌<◌, ◌≤◌, ◌^◌};
 ghost use Rattle.std.specs.Fmt.{WritesOnOk};
-ghost use Rattle.concurrent_lru.specs.Counts.{added, asked_text, counts_from, entries_text, hit_ratio_of, inserted, makings_text, one_failure, one_hit, one_making, one_miss, one_refusal, one_wait, entries_in, charge_in};
+ghost use Rattle.concurrent_lru.specs.Counts.{added, asked_text, counts_from, entries_text, hit_ratio_of, inserted, makings_text, one_failure, one_hit, one_making, one_miss, one_refusal, one_wait, recharged, entries_in, charge_in};
 
 use std::fmt;
 use std::num::nearest_u64_to_f64;
@@ -38,13 +38,16 @@ pub struct Counts {
     pub removals: u64,
     /// Entries present when the counting began.
     pub entries_before: u64,
-    /// The sum of the charges of the entries inserted.
+    /// The sum of the charges of the entries inserted. A charge that a loader told with its value
+    /// takes the place of the one with which its making was begun.
     pub inserted_charge: u128,
     /// The sum of the charges of the entries evicted.
     pub evicted_charge: u128,
     /// The sum of the charges of the entries removed.
     pub removed_charge: u128,
-    /// The sum of the charges of the entries present when the counting began.
+    /// The sum of the charges of the entries present when the counting began. If the loader of one
+    /// that was being made then told less than its making was begun with, and those inserted since
+    /// have less than the difference, the rest is taken from here.
     pub charge_before: u128,
 }
 
@@ -152,6 +155,19 @@ impl Counts {
     {
         self.insertions += 1;
         self.inserted_charge += u128::from(charge);
+    }
+
+    // Counts that the charge of an entry, which was `was`, became `charge`. As far as the entries
+    // inserted since the counting began have so much, it is one of theirs.
+    pub(crate) fn recharge(&mut self, was: u64, charge: u64)
+        requires fits { self.old.inserted_charge + charge < 2 ^ 128 }
+        requires counted { was ≤ charge_in self.old }
+        ensures { self.new ≡ recharged was charge self.old }
+    {
+        let was = u128::from(was);
+        let inserted = self.inserted_charge + u128::from(charge);
+        self.inserted_charge = inserted.saturating_sub(was);
+        self.charge_before -= was.saturating_sub(inserted);
     }
 
     // Counts evictions that left `entries` entries of `charge`. Whatever came and is neither left

@@ -2,7 +2,7 @@
 //!
 //! Each call acquires the lock once, and again after each wait. What it took out is dropped after
 //! the lock is released, and whoever waits for what it did is woken.
-ghost use Rattle.std.specs.Prelude.{◌≡◌, ◌≢◌, ◌<◌, Some, IfOk, IfErr};
+ghost use Rattle.std.specs.Prelude.{◌≡◌, ◌≢◌, ◌<◌, Some, IfOk, IfErr, IfSome};
 ghost use Rattle.std.specs.Arc.{arc_value};
 ghost use Rattle.std.specs.Sync.Mutex.{mutex_guard_value};
 ghost use Rattle.concurrent_lru.specs.Cache.{CopiesAreEqual};
@@ -28,9 +28,10 @@ const SPINS: u32 = 7;
 
 const FIRST_PAUSES: u32 = 64;
 
-/// The lock, its condition variable, and the right to wait.
+/// The lock, its condition variable, the right to wait, and the allocator of values.
 #[derive(Drop)]
 pub struct Door<K: Hash + Eq + Clone, V, R: Wait, F: Fit<K, V>> {
+    alloc: Global,
     rt: R,
     locked: Mutex<Locked<K, V, F>>,
     woken: Condvar,
@@ -67,6 +68,7 @@ impl<K: Hash + Eq + Clone + Drop, V: Drop, R: Wait, F: Fit<K, V>> Door<K, V, R, 
         requires copies { CopiesAreEqual K.is_clone K.eq }
     {
         Door {
+            alloc,
             rt,
             locked: Mutex::new(Locked::new(alloc, capacity, seed)),
             woken: Condvar::new(),
@@ -96,7 +98,7 @@ impl<K: Hash + Eq + Clone + Drop, V: Drop, R: Wait, F: Fit<K, V>> Door<K, V, R, 
         self.locked.lock(&self.rt)
     }
 
-    /// `Locked::enter`. What it evicts is dropped without the lock. Waits while another caller
+    /// `Locked::begin`. What it evicts is dropped without the lock. Waits while another caller
     /// makes the value.
     ///
     /// Returns `Memory` also if the value that it waited for is ready and its copy is refused; the
@@ -108,7 +110,7 @@ impl<K: Hash + Eq + Clone + Drop, V: Drop, R: Wait, F: Fit<K, V>> Door<K, V, R, 
         ensures never_stale { IfErr result (λ e. e ≢ Refusal.Stale) }
     {
         let mut guard = self.lock();
-        match guard.enter(key, charge)? {
+        match guard.begin(key, charge)? {
             Entered::Make(making, evicted) => {
                 drop(evicted.open(guard));
                 Ok(Lookup::Make(Maker { door: self, making }))
@@ -116,7 +118,28 @@ impl<K: Hash + Eq + Clone + Drop, V: Drop, R: Wait, F: Fit<K, V>> Door<K, V, R, 
             // If the result were returned as it is, every hit would set up the stack that a wait
             // needs.
             Entered::Wait(waiting) => Ok(self.wait(guard, waiting, key, charge)?),
-            Entered::Hit(pin) => Ok(Lookup::Hit(CacheHandle::new(self, pin))),
+            Entered::Hit(pin) => Ok(Lookup::Hit(CacheHandle { door: self, pin })),
+        }
+    }
+
+    /// `begin`, but never waits: returns `None` if another caller is making the value.
+    ///
+    /// Returns `Overflow`, `Full` and `Memory` as `begin` does.
+    pub fn try_begin(&self, key: &K, charge: u64) -> Result<Option<Lookup<'_, K, V, R, F>>, Refusal>
+        requires charged { 0 < charge }
+        ensures lookup { IfOk result (λ found. IfSome found
+            (λ lookup. IsLookupFor F.fits lookup key.now charge)) }
+        ensures never_stale { IfErr result (λ e. e ≢ Refusal.Stale) }
+    {
+        let mut guard = self.lock();
+        match guard.try_begin(key, charge)? {
+            None => Ok(None),
+            Some(Entered::Make(making, evicted)) => {
+                drop(evicted.open(guard));
+                Ok(Some(Lookup::Make(Maker { door: self, making })))
+            }
+            Some(Entered::Wait(_waiting)) => unreachable!(),
+            Some(Entered::Hit(pin)) => Ok(Some(Lookup::Hit(CacheHandle { door: self, pin }))),
         }
     }
 
@@ -146,7 +169,7 @@ impl<K: Hash + Eq + Clone + Drop, V: Drop, R: Wait, F: Fit<K, V>> Door<K, V, R, 
                     return Ok(Lookup::Make(Maker { door: self, making }));
                 }
                 Entered::Wait(waiting) => (guard, waiting),
-                Entered::Hit(pin) => return Ok(Lookup::Hit(CacheHandle::new(self, pin))),
+                Entered::Hit(pin) => return Ok(Lookup::Hit(CacheHandle { door: self, pin })),
             };
         }
         unreachable!()
@@ -181,10 +204,24 @@ impl<K: Hash + Eq + Clone + Drop, V: Drop, R: Wait, F: Fit<K, V>> Door<K, V, R, 
                 Err(Refusal::Memory)
             }
             Polled::NoPin => {
-                let entered = guard.enter(key, charge)?;
+                let entered = guard.begin(key, charge)?;
                 Ok((guard, entered))
             }
         }
+    }
+
+    /// Makes the `Arc` of a value that its entry stores, and another that its handle reads.
+    ///
+    /// Returns `Memory` if either is refused. The value is then dropped.
+    #[inline(always)]
+    pub fn share(&self, value: V) -> Result<(Arc<V>, Arc<V>), Refusal>
+        ensures stored { IfOk result (λ shares. arc_value shares.0 ≡ value) }
+        ensures read { IfOk result (λ shares. arc_value shares.1 ≡ value) }
+        ensures refused { IfErr result (λ e. e ≡ Refusal.Memory) }
+    {
+        let stored = Arc::new(self.alloc, value)?;
+        let read = Arc::try_clone(&stored)?;
+        Ok((stored, read))
     }
 
     /// `Locked::release`. The pin's `Arc`, and then what was evicted, are dropped without the lock.
@@ -229,21 +266,68 @@ fn pause(turns: u32) {
 
 impl<'a, K: Hash + Eq + Clone + Drop, V: Drop, R: Wait, F: Fit<K, V>> Maker<'a, K, V, R, F> {
     /// `Locked::ready`. Wakes the callers that wait for the value.
+    ///
+    /// Returns `Memory` if an `Arc` of the value is refused: then the making has failed.
     #[inline(always)]
-    pub fn ready(self, key: &K, stored: Arc<V>, read: Arc<V>) -> CacheHandle<'a, K, V, R, F>
+    pub fn ready(self, key: &K, value: V) -> Result<CacheHandle<'a, K, V, R, F>, Refusal>
         requires asked { self.key ≡ key.now }
-        requires fits { F.fits key.now (arc_value stored) }
-        requires same { arc_value read ≡ arc_value stored }
-        ensures handle { IsHandleFor F.fits result key.now (Some self.entry.charge) }
-        ensures value { result.value ≡ arc_value stored }
+        requires fits { F.fits key.now value }
+        ensures handle { IfOk result
+            (λ h. IsHandleFor F.fits h key.now (Some self.entry.charge)) }
+        ensures value { IfOk result (λ h. h.value ≡ value) }
+        ensures refused { IfErr result (λ e. e ≡ Refusal.Memory) }
     {
+        let Ok((stored, read)) = self.door.share(value) else {
+            self.fail(key);
+            return Err(Refusal::Memory);
+        };
         let Self { door, making } = self;
         let mut guard = door.lock();
         let (pin, back, waiters) = guard.ready(making, key, stored, read);
         waiters.wake(&door.woken);
         // If the `Arc` comes back, no entry takes the value, and the handle reads the other `Arc`.
         let _ = back.open(guard);
-        CacheHandle::new(door, pin)
+        Ok(CacheHandle { door, pin })
+    }
+
+    /// `Locked::ready_with`. Wakes the callers that wait for the value. What the charge evicted is
+    /// dropped without the lock.
+    ///
+    /// Returns `Memory` as `ready` does, and `Overflow` and `Full` as `Locked` does: then the value
+    /// is dropped without the lock, and the making has failed.
+    pub fn ready_with(
+        self,
+        key: &K,
+        value: V,
+        charge: u64,
+    ) -> Result<CacheHandle<'a, K, V, R, F>, Refusal>
+        requires charged { 0 < charge }
+        requires asked { self.key ≡ key.now }
+        requires fits { F.fits key.now value }
+        ensures handle { IfOk result (λ h. IsHandleFor F.fits h key.now (Some charge)) }
+        ensures value { IfOk result (λ h. h.value ≡ value) }
+        ensures never_stale { IfErr result (λ e. e ≢ Refusal.Stale) }
+    {
+        let Ok((stored, read)) = self.door.share(value) else {
+            self.fail(key);
+            return Err(Refusal::Memory);
+        };
+        let Self { door, making } = self;
+        let mut guard = door.lock();
+        match guard.ready_with(making, key, stored, read, charge) {
+            Ok((pin, evicted, waiters)) => {
+                waiters.wake(&door.woken);
+                // If the `Arc` comes back, no entry takes the value, and the handle reads the other
+                // `Arc`.
+                let _ = evicted.open(guard);
+                Ok(CacheHandle { door, pin })
+            }
+            Err((refusal, values, making)) => {
+                drop(values.open(guard));
+                Maker { door, making }.fail(key);
+                Err(refusal)
+            }
+        }
     }
 
     /// `Locked::fail`. Wakes the callers that wait, since the next of them takes over the making.

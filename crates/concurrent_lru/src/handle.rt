@@ -1,7 +1,7 @@
 //! Handles, each of which pins the value that it reads.
 //!
 //! Reading acquires no lock; dropping the handle releases the pin under the lock.
-ghost use Rattle.std.specs.Prelude.{◌≡◌, ◌≢◌, IfOk, IfErr};
+ghost use Rattle.std.specs.Prelude.{◌≡◌, ◌≢◌, None, IfOk, IfErr};
 
 use crate::door::Door;
 use crate::fit::{Anything, Fit};
@@ -21,8 +21,9 @@ use std::sync::Wait;
 /// Clauses see the key and the charge that were asked for (`get` has no charge), and the value,
 /// which fits that key by the mark `F`.
 pub struct CacheHandle<'a, K: Hash + Eq + Clone, V, R: Wait, F: Fit<K, V> = Anything> {
-    door: &'a Door<K, V, R, F>,
-    pin: HeldPin<K, V, F>,
+    // Where the pin was acquired and is released.
+    pub(crate) door: &'a Door<K, V, R, F>,
+    pub(crate) pin: HeldPin<K, V, F>,
 }
 
 impl<'a, K: Hash + Eq + Clone, V, R: Wait, F: Fit<K, V>> Model for CacheHandle<'a, K, V, R, F> {
@@ -34,15 +35,6 @@ impl<'a, K: Hash + Eq + Clone, V, R: Wait, F: Fit<K, V>> Model for CacheHandle<'
 }
 
 impl<'a, K: Hash + Eq + Clone, V, R: Wait, F: Fit<K, V>> CacheHandle<'a, K, V, R, F> {
-    // Creates a handle of a pin, with the door where the pin was acquired and is released.
-    pub(crate) fn new(door: &'a Door<K, V, R, F>, pin: HeldPin<K, V, F>) -> Self
-        ensures key { result.key ≡ pin.key }
-        ensures charge { result.charge ≡ pin.charge }
-        ensures value { result.value ≡ pin.value }
-    {
-        CacheHandle { door, pin }
-    }
-
     /// Returns the value. Acquires no lock.
     pub fn value(&self) -> &V
         ensures value { result.now ≡ self.now.value }
@@ -66,7 +58,23 @@ impl<'a, K: Hash + Eq + Clone + Drop, V: Drop, R: Wait, F: Fit<K, V>> CacheHandl
         ensures never_stale { IfErr result (λ e. e ≢ Refusal.Stale) }
     {
         let pin = self.door.repin(&self.pin)?;
-        Ok(CacheHandle::new(self.door, pin))
+        Ok(CacheHandle {
+            door: self.door,
+            pin,
+        })
+    }
+
+    // Returns this handle as one of a caller that asked with no charge.
+    pub(crate) fn uncharged(self) -> Self
+        ensures key { result.key ≡ self.entry.key }
+        ensures charge { result.charge ≡ None }
+        ensures value { result.value ≡ self.entry.value }
+    {
+        let Self { door, pin } = self;
+        CacheHandle {
+            door,
+            pin: pin.uncharged(),
+        }
     }
 
     // Returns the pin alone, for a handle that keeps the cache alive by other means.

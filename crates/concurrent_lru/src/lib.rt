@@ -6,6 +6,7 @@
 //! wait, a growth) is left as a call.
 #![tactic(auto)]
 
+pub mod as_key;
 pub mod counts;
 mod door;
 pub mod eviction;
@@ -16,6 +17,7 @@ pub mod linear_probing;
 pub mod list;
 pub mod locked;
 pub mod lru_core;
+mod maker;
 pub mod node_table;
 mod owned;
 mod refusal;

@@ -3,20 +3,22 @@
 //!
 //! Each call is one step of the core. What it leaves to be done is returned as a debt, a type that
 //! is not `Drop`.
-ghost use Rattle.std.specs.Prelude.{◌≡◌, ◌≢◌, ◌<◌, Err, Some, None, IsTrue, IsFalse, IfOk, IfErr, IfSome, false};
+ghost use Rattle.std.specs.Prelude.{◌≡◌, ◌≢◌, ◌<◌, Ok, Err, Some, None, IsFalse, IfOk, IfErr, IfSome, false};
 ghost use Rattle.std.specs.Arc.{arc_value};
 ghost use Rattle.std.specs.Fn.{FnOnceReturnsAt, FnOnceTakesAt};
 ghost use Rattle.concurrent_lru.specs.Cache.{count_of, empty_cache, most_pins_by_default, sum_of, IsLawful, CopiesAreEqual, HasNoOtherPin, IsSettled};
 ghost use Rattle.concurrent_lru.specs.CountedCalls.{counted, counted_look, AddUp};
-ghost use Rattle.concurrent_lru.specs.Counts.{counts_from};
-ghost use Rattle.concurrent_lru.specs.Debts.{outcome_of_locked_begin, outcome_of_locked_poll, outcome_of_locked_get, outcome_of_locked_repin, AsksOnEntry, AsksOnPoll, IfEntered, IfPolled};
+ghost use Rattle.concurrent_lru.specs.Counts.{counts_from, one_miss};
+ghost use Rattle.concurrent_lru.specs.Debts.{outcome_of_locked_begin, outcome_of_locked_try_begin, outcome_of_locked_poll, outcome_of_locked_get, outcome_of_locked_repin, begin_under, AsksOnEntry, AsksOnPoll, IfEntered, IfPolled, NeedsNoWait};
+ghost use Rattle.concurrent_lru.specs.Makings.{IsBeingMade};
 ghost use Rattle.concurrent_lru.specs.Reads.{Reads};
 ghost use Rattle.concurrent_lru.specs.Ready.{ValuesFit, HasEqualKeyAt};
 ghost use Rattle.concurrent_lru.specs.Request as ask;
-ghost use Rattle.concurrent_lru.specs.Results.{outcome_of_begin, outcome_of_poll, outcome_of_ready, outcome_of_fail, outcome_of_release, outcome_of_evictions, begun_without_hint};
+ghost use Rattle.concurrent_lru.specs.Results.{outcome_of_poll, outcome_of_ready, outcome_of_fail, outcome_of_release};
 ghost use Rattle.concurrent_lru.specs.Runs.{Stands};
 ghost use Rattle.concurrent_lru.specs.ThreadedCalls.{IfHit};
 
+mod charges;
 mod counting;
 mod evictions;
 mod inserts;
@@ -25,10 +27,11 @@ mod waiters;
 
 pub use self::pins::{Entered, HeldPin, Making, Polled, Unread, Waiting, Woken};
 pub use self::waiters::Waiters;
+use crate::as_key::AsKey;
 use crate::counts::Counts;
 use crate::fit::Fit;
-use crate::locked::counting::{count_begin, count_look, count_poll, count_repin};
-use crate::lru_core::{Begun, Evicted, Failed, Hint, Refusal, Spot, State};
+use crate::locked::counting::{count_look, count_poll, count_repin};
+use crate::lru_core::{Begun, Evicted, Failed, Refusal, Spot, State};
 use crate::sealed::Sealed;
 use std::alloc::Global;
 use std::fmt;
@@ -146,116 +149,100 @@ impl<K: Hash + Eq + Clone + Drop, V: Drop, F: Fit<K, V>> Locked<K, V, F> {
         self.strict
     }
 
-    /// `begin`, or `begin_strictly` if the limit is strict.
-    #[inline(always)]
-    pub fn enter(&mut self, key: &K, charge: u64) -> Result<Entered<K, V, F>, Refusal>
-        requires charged { 0 < charge }
-        ensures step { IsFalse self.old.strict → Stands K.eq self.old.cache
-            (ask.begin key.now charge) (outcome_of_locked_begin result) self.new.cache }
-        ensures strict_step { IsTrue self.old.strict → Stands K.eq self.old.cache
-            (ask.begin_strictly key.now charge) (outcome_of_locked_begin result) self.new.cache }
-        ensures asked { IfOk result (λ e. AsksOnEntry e key.now charge self.new) }
-        ensures hit { IfOk result (λ e. IfEntered e (F.fits key.now)) }
-        ensures never_stale { IfErr result (λ e. e ≢ Refusal.Stale) }
-        ensures strict { self.new.strict ≡ self.old.strict }
-    {
-        if self.strict {
-            return self.begin_strictly(key, charge);
-        }
-        self.begin(key, charge)
-    }
-
-    /// The core's `begin_strictly`. The value of a hit fits the key.
-    #[inline(never)]
-    pub fn begin_strictly(&mut self, key: &K, charge: u64) -> Result<Entered<K, V, F>, Refusal>
-        requires charged { 0 < charge }
-        ensures step { Stands K.eq self.old.cache (ask.begin_strictly key.now charge)
-            (outcome_of_locked_begin result) self.new.cache }
-        ensures counted { self.new.counts ≡ counted self.old.cache
-            (ask.begin_strictly key.now charge) (outcome_of_locked_begin result) self.old.counts }
-        ensures asked { IfOk result (λ e. AsksOnEntry e key.now charge self.new) }
-        ensures hit { IfOk result (λ e. IfEntered e (F.fits key.now)) }
-        ensures never_stale { IfErr result (λ e. e ≢ Refusal.Stale) }
-        ensures strict { self.new.strict ≡ self.old.strict }
-    {
-        if self.state.is_full_for(key, charge) {
-            self.counts.refuse();
-            return Err(Refusal::Full);
-        }
-        self.begin(key, charge)
-    }
-
-    /// The core's `begin`. The value of a hit fits the key.
+    /// The core's `begin`, or its `begin_strictly` if the limit is strict. The value of a hit fits
+    /// the key.
     #[inline(always)]
     pub fn begin(&mut self, key: &K, charge: u64) -> Result<Entered<K, V, F>, Refusal>
         requires charged { 0 < charge }
-        ensures step { Stands K.eq self.old.cache (ask.begin key.now charge)
+        ensures step { Stands K.eq self.old.cache (begin_under self.old.strict key.now charge)
             (outcome_of_locked_begin result) self.new.cache }
-        ensures counted { self.new.counts ≡ counted self.old.cache (ask.begin key.now charge)
+        ensures counted { self.new.counts ≡ counted self.old.cache
+            (begin_under self.old.strict key.now charge)
             (outcome_of_locked_begin result) self.old.counts }
         ensures asked { IfOk result (λ e. AsksOnEntry e key.now charge self.new) }
         ensures hit { IfOk result (λ e. IfEntered e (F.fits key.now)) }
         ensures never_stale { IfErr result (λ e. e ≢ Refusal.Stale) }
         ensures strict { self.new.strict ≡ self.old.strict }
     {
-        let (begun, evicted, hint) = self.begin_core(key, charge)?;
-        match begun {
-            Begun::Make(stamp) => {
-                let making = Making::of(Spot { stamp, hint }, key, charge);
-                Ok(Entered::Make(making, Sealed::of(evicted)))
+        if self.strict && self.state.is_full_for(key, charge) {
+            self.counts.refuse();
+            return Err(Refusal::Full);
+        }
+        let next = self.state.next_stamp();
+        let (begun, evicted, hint) = match self.state.begin_at(key, charge) {
+            Ok(begun) => begun,
+            Err(refusal) => {
+                self.counts.refuse();
+                return Err(refusal);
             }
+        };
+        match begun {
             // A begin that finds an entry evicts nothing, so there is nothing to seal.
+            Begun::Hit(stamp, value) => {
+                prove!(evicted.is_empty());
+                self.counts.hit();
+                let spot = Spot { stamp, hint };
+                Ok(Entered::Hit(HeldPin::of(spot, key, Some(charge), value)))
+            }
             Begun::Wait(stamp) => {
                 prove!(evicted.is_empty());
+                self.counts.wait();
                 let spot = Spot { stamp, hint };
                 Ok(Entered::Wait(Waiting::of(spot, key, charge, self)))
             }
-            Begun::Hit(stamp, value) => {
-                prove!(evicted.is_empty());
-                let spot = Spot { stamp, hint };
-                Ok(Entered::Hit(HeldPin::of(spot, key, Some(charge), value)))
+            Begun::Make(stamp) => {
+                self.counts.miss();
+                self.counts.make();
+                // A making that is taken over has an earlier stamp, and inserts no entry.
+                if stamp == next {
+                    self.counts.insert(charge);
+                    self.counts
+                        .evict(self.state.len() as u64, self.state.total());
+                }
+                let making = Making::of(Spot { stamp, hint }, key, charge);
+                Ok(Entered::Make(making, Sealed::of(evicted)))
             }
         }
     }
 
-    // The core's `begin`, counted. Returns the core's result, and a hint of the entry.
-    #[inline(always)]
-    fn begin_core(
-        &mut self,
-        key: &K,
-        charge: u64,
-    ) -> Result<(Begun<V>, Evicted<K, V>, Hint), Refusal>
+    /// `begin`, if no other caller is making the value: the caller need not wait. Otherwise returns
+    /// `None`, and counts a miss.
+    pub fn try_begin(&mut self, key: &K, charge: u64) -> Result<Option<Entered<K, V, F>>, Refusal>
         requires charged { 0 < charge }
-        ensures step { Stands K.eq self.old.cache (ask.begin key.now charge)
-            (outcome_of_begin (begun_without_hint result)) self.new.cache }
-        ensures counted { self.new.counts ≡ counted self.old.cache (ask.begin key.now charge)
-            (outcome_of_begin (begun_without_hint result)) self.old.counts }
-        ensures hit { IfOk result (λ r. IfHit r.0 (F.fits key.now)) }
+        ensures busy { IsBeingMade K.eq self.old.cache key.now → (result ≡ Ok None)
+            × (self.new ≡ record self.old { counts = one_miss self.old.counts }) }
+        ensures step { (IsBeingMade K.eq self.old.cache key.now → ⊥)
+            → Stands K.eq self.old.cache (begin_under self.old.strict key.now charge)
+            (outcome_of_locked_try_begin result) self.new.cache }
+        ensures counted { (IsBeingMade K.eq self.old.cache key.now → ⊥)
+            → self.new.counts ≡ counted self.old.cache
+            (begin_under self.old.strict key.now charge)
+            (outcome_of_locked_try_begin result) self.old.counts }
+        ensures asked { IfOk result (λ found. IfSome found
+            (λ e. AsksOnEntry e key.now charge self.new)) }
+        ensures hit { IfOk result (λ found. IfSome found (λ e. IfEntered e (F.fits key.now))) }
+        ensures at_once { IfOk result (λ found. IfSome found NeedsNoWait) }
         ensures never_stale { IfErr result (λ e. e ≢ Refusal.Stale) }
         ensures strict { self.new.strict ≡ self.old.strict }
     {
-        let next = self.state.next_stamp();
-        let begun = self.state.begin_at(key, charge);
-        let is_insertion = count_begin(&mut self.counts, &begun, next);
-        if !is_insertion {
-            return begun;
+        if self.state.is_being_made(key) {
+            self.counts.miss();
+            return Ok(None);
         }
-        self.counts.insert(charge);
-        self.counts
-            .evict(self.state.len() as u64, self.state.total());
-        begun
+        let entered = self.begin(key, charge)?;
+        Ok(Some(entered))
     }
 
     /// The core's `get`. The value found fits the key.
     #[inline(always)]
-    pub fn get(&mut self, key: &K) -> Result<Option<HeldPin<K, V, F>>, Refusal>
-        ensures step { Stands K.eq self.old.cache (ask.get key.now) (outcome_of_locked_get result)
-            self.new.cache }
-        ensures counted { self.new.counts ≡ counted self.old.cache (ask.get key.now)
+    pub fn get<Q: AsKey<K>>(&mut self, key: Q) -> Result<Option<HeldPin<K, V, F>>, Refusal>
+        ensures step { Stands K.eq self.old.cache (ask.get (Q.owned key))
+            (outcome_of_locked_get result) self.new.cache }
+        ensures counted { self.new.counts ≡ counted self.old.cache (ask.get (Q.owned key))
             (outcome_of_locked_get result) self.old.counts }
         ensures asked { IfOk result (λ found. IfSome found
-            (λ p. (p.key ≡ key.now) × (p.charge ≡ None))) }
-        ensures hit { IfOk result (λ found. IfSome found (λ p. F.fits key.now p.value)) }
+            (λ p. (p.key ≡ Q.owned key) × (p.charge ≡ None))) }
+        ensures hit { IfOk result (λ found. IfSome found (λ p. F.fits (Q.owned key) p.value)) }
         ensures never_stale { IfErr result (λ e. e ≢ Refusal.Stale) }
         ensures strict { self.new.strict ≡ self.old.strict }
     {
@@ -272,15 +259,19 @@ impl<K: Hash + Eq + Clone + Drop, V: Drop, F: Fit<K, V>> Locked<K, V, F> {
 
     /// The core's `read`. The value passed to `reader` fits the key.
     #[inline(always)]
-    pub fn read<T, G>(&mut self, key: &K, reader: G) -> Result<Option<(u64, T)>, Refusal>
+    pub fn read<Q: AsKey<K>, T, G>(
+        &mut self,
+        key: Q,
+        reader: G,
+    ) -> Result<Option<(u64, T)>, Refusal>
     where
         G: FnOnce(&V) -> T + Drop,
-        requires callable { (v : V) → F.fits key.now v → FnOnceTakesAt G.FnOnce reader v }
-        ensures step { Reads K.eq self.old.cache key.now (FnOnceReturnsAt G.FnOnce reader) result
-            self.new.cache }
+        requires callable { (v : V) → F.fits (Q.owned key) v → FnOnceTakesAt G.FnOnce reader v }
+        ensures step { Reads K.eq self.old.cache (Q.owned key)
+            (FnOnceReturnsAt G.FnOnce reader) result self.new.cache }
         ensures counted { self.new.counts ≡ counted_look result self.old.counts }
         ensures fits { IfOk result (λ found. IfSome found
-            (λ r. (v : V) × F.fits key.now v × FnOnceReturnsAt G.FnOnce reader v r.1)) }
+            (λ r. (v : V) × F.fits (Q.owned key) v × FnOnceReturnsAt G.FnOnce reader v r.1)) }
         ensures refused { IfErr result (λ e. e ≡ Refusal.Overflow) }
         ensures strict { self.new.strict ≡ self.old.strict }
     {
@@ -401,7 +392,7 @@ impl<K: Hash + Eq + Clone + Drop, V: Drop, F: Fit<K, V>> Locked<K, V, F> {
         } = making;
         let (back, shared) = self.state.ready_keyed(&spot, key, stored);
         let pin = HeldPin::of(spot, key, Some(charge), read);
-        (pin, Sealed::of(back), Waiters::of(shared))
+        (pin, Sealed::of(back), Waiters { some: shared })
     }
 
     /// The core's `fail`, if the making's entry has the key. Takes no memory.
@@ -430,7 +421,7 @@ impl<K: Hash + Eq + Clone + Drop, V: Drop, F: Fit<K, V>> Locked<K, V, F> {
             charge: _,
         } = making;
         let (is_own, shared) = self.state.has_key(&spot, key);
-        let waiters = Waiters::of(shared);
+        let waiters = Waiters { some: shared };
         if !is_own {
             return (Sealed::of(Err(Refusal::Stale)), waiters);
         }
@@ -488,8 +479,8 @@ impl<K: Hash + Eq + Clone + Drop, V: Drop, F: Fit<K, V>> Locked<K, V, F> {
     /// `Arc` of the pin's value, and the `Arc` that the core returned is sealed.
     ///
     /// Returns `Overflow` and `Memory` as there, with `read` sealed: then no entry changes. If the
-    /// core refuses as `Stale`, no entry has a pin for `pin` or for the new pin, whose release then
-    /// changes nothing.
+    /// core refuses as `Stale`, nothing changes either (`stale`), and that refusal is sealed: no
+    /// entry has a pin for `pin` or for the new pin, whose release then changes nothing.
     pub fn repin(
         &mut self,
         pin: &HeldPin<K, V, F>,
@@ -501,6 +492,8 @@ impl<K: Hash + Eq + Clone + Drop, V: Drop, F: Fit<K, V>> Locked<K, V, F> {
         ensures counted { self.new.counts ≡ counted self.old.cache (ask.repin pin.now.stamp)
             (outcome_of_locked_repin result) self.old.counts }
         ensures pin { IfOk result (λ r. r.0 ≡ pin.now) }
+        ensures stale { IfOk result (λ r. IfErr r.1
+            (λ e. (e ≡ Refusal.Stale) × (self.new ≡ self.old))) }
         ensures never_stale { IfErr result (λ e. e.0 ≢ Refusal.Stale) }
         ensures strict { self.new.strict ≡ self.old.strict }
     {

@@ -5,7 +5,7 @@
 ghost use Rattle.std.specs.Prelude.{◌≡◌, ◌≢◌, ℕ, ◌+◌, ◌<◌, ◌≤◌, ◌^◌, ◌==◌, Some, None, [], ◌∷◌, ◌++◌, filter, not, OnOk, IfErr, IfSome, IsTrue, IsFalse, MatchOption, slice_get, nat_eq};
 ghost use Rattle.std.specs.List.{IsDistinct};
 ghost use Rattle.std.specs.FinMap as map;
-ghost use Rattle.concurrent_lru.specs.NodeTable.{entry_of, hash_of, chain_of, update_at, entry_with_pins, entry_detached, entry_with_phase, new_entry, HasCharge, ContainsNode, ContainsIdle, LacksIdle, GetsNode, LeadsTo, HasStampAt, IsNewStamp, FindsStamp, HasKey, IsNewKey};
+ghost use Rattle.concurrent_lru.specs.NodeTable.{entry_of, hash_of, chain_of, update_at, entry_with_charge, entry_with_pins, entry_detached, entry_with_phase, new_entry, HasCharge, ContainsNode, ContainsIdle, LacksIdle, GetsNode, LeadsTo, HasStampAt, IsNewStamp, FindsStamp, HasKey, IsNewKey};
 
 mod fields;
 mod links;
@@ -14,12 +14,14 @@ mod open_table;
 mod probes;
 mod slots;
 
+use crate::as_key::AsKey;
 use crate::node_table::links::Order;
 pub(crate) use crate::node_table::memory::At;
 use crate::node_table::probes::Step;
 pub use crate::refusal::Refusal;
 use crate::work::Work;
 use std::alloc::Global;
+use std::hash::Hash;
 use std::marker::{Model, Send, Sync};
 use std::ptr;
 
@@ -250,7 +252,7 @@ impl<K: Drop, V: Drop> Nodes<K, V> {
     pub fn len(&self) -> usize
         ensures { result ≡ map.len self.now.nodes }
     {
-        self.order.slots.len()
+        self.order.slots.pointers.len()
     }
 
     // Returns whether there is a node at a place. Any place will do.
@@ -278,11 +280,12 @@ impl<K: Drop, V: Drop> Nodes<K, V> {
 
     // Returns the node with an equal key, among those with this hash that are not detached.
     #[inline(always)]
-    pub(crate) fn find_key(&self, hash: u64, key: &K) -> Option<Found<'_, K, V>>
+    pub(crate) fn find_key<Q>(&self, hash: u64, key: Q) -> Option<Found<'_, K, V>>
     where
-        K: Eq,
-        ensures found { MatchOption result (IsNewKey K.eq self.now hash key.now)
-            (λ found. HasKey K.eq found.node.now key.now) }
+        K: Hash + Eq,
+        Q: AsKey<K>,
+        ensures found { MatchOption result (IsNewKey K.eq self.now hash (Q.owned key))
+            (λ found. HasKey K.eq found.node.now (Q.owned key)) }
         ensures node { IfSome result (λ found. GetsNode self.now found.place found.node.now) }
         ensures link { IfSome result (λ found. LeadsTo self.now found.link found.place) }
     {
@@ -291,7 +294,7 @@ impl<K: Drop, V: Drop> Nodes<K, V> {
         'walk: while let Step::Item(cursor) = at {
             let link = slots.by_hash.item(cursor);
             let node = slots.memory.get(link);
-            if node.key == *key {
+            if key.is_key(&node.key) {
                 return Some(Found {
                     place: Place { slot: node.slot },
                     link,
@@ -438,6 +441,27 @@ impl<K: Drop, V: Drop> Nodes<K, V> {
         // Only the contract uses it.
         let _ = place;
         self.order.slots.memory.lend(link).set_phase(phase);
+    }
+
+    // Sets the charge of the node that a lookup found, and returns the one that it had. Takes no
+    // memory.
+    pub(crate) fn write_charge(&mut self, place: Place, link: At<Node<K, V>>, charge: u64) -> u64
+        requires within { ContainsNode self.old place }
+        requires link { LeadsTo self.old link place }
+        ensures charge { HasCharge (map.get self.old.nodes place) result }
+        ensures nodes { self.new.nodes ≡ update_at (entry_with_charge charge) self.old.nodes place }
+        ensures hashes { self.new.hashes ≡ self.old.hashes }
+        ensures links { self.new.links ≡ self.old.links }
+        ensures idle { self.new.idle ≡ self.old.idle }
+        ensures spare { self.old.spare ≤ self.new.spare }
+        ensures work { self.new.work ≡ self.old.work }
+    {
+        // Only the contract uses it.
+        let _ = place;
+        let node = self.order.slots.memory.lend(link);
+        let was = node.charge;
+        node.set_charge(charge);
+        was
     }
 
     /// Makes a node the newest idle one. Takes no memory.

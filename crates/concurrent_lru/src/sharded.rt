@@ -1,19 +1,22 @@
 //! A cache in shards, each behind its own lock, for any number of threads.
 //!
 //! A hasher chooses the shard that serves a key. No shard waits for another's lock.
-ghost use Rattle.std.specs.Prelude.{◌≡◌, ◌≢◌, ◌<◌, Some, None, Ok, Err, IfOk, IfErr, IfSome};
+ghost use Rattle.std.specs.Prelude.{◌≡◌, ◌≢◌, ℕ, ◌<◌, Some, None, Ok, Err, IfOk, IfErr, IfSome};
 ghost use Rattle.std.specs.Fn.{FnOnceReturnsAt, FnOnceTakesAt};
 ghost use Rattle.concurrent_lru.specs.Cache.{CopiesAreEqual};
 ghost use Rattle.concurrent_lru.specs.ThreadedCalls.{IfInit};
 
+mod maker;
 mod owned;
 mod route;
 
 pub use self::owned::OwnedHandle;
+use crate::as_key::AsKey;
 pub use crate::counts::Counts;
 pub use crate::fit::{Anything, Fit};
 pub use crate::get_error::GetError;
 pub use crate::lru_core::Refusal;
+pub use crate::maker::{Begun, Maker};
 use crate::sharded::route::Routes;
 use crate::shards::DEFAULT_SHARDS;
 pub use crate::shards::{ShardStep, Shards, capacity_per_shard};
@@ -138,14 +141,15 @@ impl<K: Hash + Eq + Clone + Drop, V: Drop, R: Wait, S: BuildHasher, F: Fit<K, V>
         self.find(&key)
     }
 
-    /// `get` with the key by reference. The key is not copied.
+    /// `get` with the key by reference, or by what stands for it ([`AsKey`]): a cache whose
+    /// keys are `String`s is asked by a `&str` too. The key is not copied.
     ///
     /// Returns `Overflow` and `Memory` as `get` does.
     #[inline(always)]
-    pub fn find(&self, key: &K) -> Result<Option<CacheHandle<'_, K, V, R, F>>, Refusal>
-        ensures key { IfOk result (λ found. IfSome found (λ h. h.key ≡ key.now)) }
+    pub fn find<Q: AsKey<K>>(&self, key: Q) -> Result<Option<CacheHandle<'_, K, V, R, F>>, Refusal>
+        ensures key { IfOk result (λ found. IfSome found (λ h. h.key ≡ Q.owned key)) }
         ensures charge { IfOk result (λ found. IfSome found (λ h. h.charge ≡ None)) }
-        ensures fits { IfOk result (λ found. IfSome found (λ h. F.fits key.now h.value)) }
+        ensures fits { IfOk result (λ found. IfSome found (λ h. F.fits (Q.owned key) h.value)) }
         ensures never_stale { IfErr result (λ e. e ≢ Refusal.Stale) }
     {
         self.routes.of(key).find(key)
@@ -162,12 +166,12 @@ impl<K: Hash + Eq + Clone + Drop, V: Drop, R: Wait, S: BuildHasher, F: Fit<K, V>
     ///
     /// Returns `Overflow` if the entry has the maximum number of pins, as `get` does.
     #[inline(always)]
-    pub fn read<T, G>(&self, key: &K, reader: G) -> Result<Option<T>, Refusal>
+    pub fn read<Q: AsKey<K>, T, G>(&self, key: Q, reader: G) -> Result<Option<T>, Refusal>
     where
         G: FnOnce(&V) -> T + Drop,
-        requires callable { (v : V) → F.fits key.now v → FnOnceTakesAt G.FnOnce reader v }
+        requires callable { (v : V) → F.fits (Q.owned key) v → FnOnceTakesAt G.FnOnce reader v }
         ensures fits { IfOk result (λ found. IfSome found
-            (λ t. (v : V) × F.fits key.now v × FnOnceReturnsAt G.FnOnce reader v t)) }
+            (λ t. (v : V) × F.fits (Q.owned key) v × FnOnceReturnsAt G.FnOnce reader v t)) }
         ensures refused { IfErr result (λ e. e ≡ Refusal.Overflow) }
     {
         self.routes.of(key).read(key, reader)
@@ -270,22 +274,73 @@ impl<K: Hash + Eq + Clone + Drop, V: Drop, R: Wait, S: BuildHasher, F: Fit<K, V>
         self.routes.of(key).get_or_init_by(key, charge, init)
     }
 
+    /// `get_or_try_init_by` with an `init` that also returns the charge of the value: it need not
+    /// be known before the value is made.
+    ///
+    /// The charges, the evictions, the handle's charge and the errors `Init`, `Overflow`, `Full`
+    /// and `Memory` are those of `unsharded::LruCache`, within the key's shard.
+    pub fn get_or_try_init_with<E, I>(
+        &self,
+        key: &K,
+        init: I,
+    ) -> Result<CacheHandle<'_, K, V, R, F>, GetError<E>>
+    where
+        I: FnOnce(&K) -> Result<(V, u64), E> + Drop,
+        requires callable { FnOnceTakesAt I.FnOnce init key.now }
+        requires charged { (v : V) → (c : ℕ) → FnOnceReturnsAt I.FnOnce init key.now (Ok (v, c))
+            → 0 < c }
+        requires fits { (v : V) → (c : ℕ) → FnOnceReturnsAt I.FnOnce init key.now (Ok (v, c))
+            → F.fits key.now v }
+        ensures key { IfOk result (λ h. h.key ≡ key.now) }
+        ensures charge { IfOk result (λ h. IfSome h.charge
+            (λ c. FnOnceReturnsAt I.FnOnce init key.now (Ok (h.value, c)))) }
+        ensures fits { IfOk result (λ h. F.fits key.now h.value) }
+        ensures error { IfErr result (λ e. IfInit e
+            (λ x. FnOnceReturnsAt I.FnOnce init key.now (Err x))) }
+    {
+        self.routes.of(key).get_or_try_init_with(key, init)
+    }
+
+    /// `get_or_try_init_with` with an `init` that cannot fail.
+    ///
+    /// Returns `Memory`, `Overflow` and `Full` as `get_or_try_init_with` does.
+    pub fn get_or_init_with<I>(
+        &self,
+        key: &K,
+        init: I,
+    ) -> Result<CacheHandle<'_, K, V, R, F>, Refusal>
+    where
+        I: FnOnce(&K) -> (V, u64) + Drop,
+        requires callable { FnOnceTakesAt I.FnOnce init key.now }
+        requires charged { (v : V) → (c : ℕ) → FnOnceReturnsAt I.FnOnce init key.now (v, c)
+            → 0 < c }
+        requires fits { (v : V) → (c : ℕ) → FnOnceReturnsAt I.FnOnce init key.now (v, c)
+            → F.fits key.now v }
+        ensures key { IfOk result (λ h. h.key ≡ key.now) }
+        ensures charge { IfOk result (λ h. IfSome h.charge
+            (λ c. FnOnceReturnsAt I.FnOnce init key.now (h.value, c))) }
+        ensures fits { IfOk result (λ h. F.fits key.now h.value) }
+        ensures never_stale { IfErr result (λ e. e ≢ Refusal.Stale) }
+    {
+        self.routes.of(key).get_or_init_with(key, init)
+    }
+
     /// Evicts the entry of a key if it is idle. Otherwise nothing happens, now or later. Takes no
     /// memory. `advise` takes the key by reference.
     pub fn advice_evict(&self, key: K) {
         self.advise(&key);
     }
 
-    /// `advice_evict` with the key by reference.
-    pub fn advise(&self, key: &K) {
+    /// `advice_evict` with the key by reference, or by what stands for it.
+    pub fn advise<Q: AsKey<K>>(&self, key: Q) {
         self.routes.of(key).advise(key);
     }
 
-    /// Invalidates a key in its shard: whoever asks for it after this call gets a value that is
-    /// made after it, even while others hold the old one. An idle entry is evicted. A held one
-    /// stays for its holders only, and is evicted when its last handle is dropped. Copies no key
-    /// and takes no memory.
-    pub fn invalidate(&self, key: &K) {
+    /// Invalidates a key in its shard: whoever asks for it after this call gets a value that was
+    /// inserted, or whose making began, after it, even while others hold the old one. An idle entry
+    /// is evicted. A held one stays for its holders only, and is evicted when its last handle is
+    /// dropped. Copies no key and takes no memory.
+    pub fn invalidate<Q: AsKey<K>>(&self, key: Q) {
         self.routes.of(key).invalidate(key);
     }
 
@@ -313,7 +368,7 @@ impl<K: Hash + Eq + Clone + Drop, V: Drop, R: Wait, S: BuildHasher, F: Fit<K, V>
 
     /// Returns whether the key has a ready value in its shard, as `unsharded::LruCache::contains`
     /// does. Takes no memory.
-    pub fn contains(&self, key: &K) -> bool {
+    pub fn contains<Q: AsKey<K>>(&self, key: Q) -> bool {
         self.routes.of(key).contains(key)
     }
 }

@@ -9,7 +9,7 @@ ghost use Rattle.concurrent_lru.specs.Parts.{EachTakes, StandsAt};
 ghost use Rattle.concurrent_lru.specs.Reads.{FindsAt, ReadsAt};
 ghost use Rattle.concurrent_lru.specs.ReadyEntries.{ListsReadyAt};
 ghost use Rattle.concurrent_lru.specs.Request as ask;
-ghost use Rattle.concurrent_lru.specs.Results.{outcome_of_evictions, outcome_of_fail, outcome_of_poll, outcome_of_ready, outcome_of_release, outcome_of_repin};
+ghost use Rattle.concurrent_lru.specs.Results.{outcome_of_evictions, outcome_of_fail, outcome_of_poll, outcome_of_ready, outcome_of_ready_with, outcome_of_release, outcome_of_repin};
 ghost use Rattle.concurrent_lru.specs.Runs.{refused};
 ghost use Rattle.concurrent_lru.specs.declared.refusal.Refusal.TheVariants.{Stale};
 ghost use Rattle.concurrent_lru.specs.Sharded.{AreLawful, HasReadyKeyAt, IsUnreadyAt, key_number, key_shard};
@@ -17,11 +17,12 @@ ghost use Rattle.concurrent_lru.specs.ShardSteps.{outcome_of_shard_begin, outcom
 
 mod runs;
 
+use crate::as_key::AsKey;
 use crate::lru_core::{Begun, Entries, Evicted, Failed, Inserted, Refusal, State};
 use crate::table::seed_of_shard;
 use std::alloc::Global;
 use std::fmt;
-use std::hash::{BuildHasher, Hash};
+use std::hash::{BuildHasher, Hash, Hasher};
 use std::marker::Model;
 use std::sync::Arc;
 
@@ -39,13 +40,19 @@ pub(crate) const DEFAULT_SHARDS: usize = 16;
 // Returns the shard of a key: its hash modulo the number of shards. For a power of two up to 256
 // the compiler uses a mask, since a 64-bit division takes as long as acquiring the lock.
 #[inline(always)]
-pub(crate) fn choose_shard<K: Hash, S: BuildHasher>(hasher: &S, key: &K, shards: usize) -> usize
+pub(crate) fn choose_shard<K: Hash + Eq, Q: AsKey<K>, S: BuildHasher>(
+    hasher: &S,
+    key: Q,
+    shards: usize,
+) -> usize
     requires { 0 < shards }
     ensures chosen { result ≡ key_number S.BuildHasher S.Hasher.Hasher K.hash_input hasher.now
-        key.now % shards }
+        (Q.owned key) % shards }
     ensures within { result < shards }
 {
-    let number = hasher.hash_one(key);
+    let mut state = hasher.build_hasher();
+    key.feed(&mut state);
+    let number = state.finish();
     let shard = match shards {
         2 => number % 2,
         4 => number % 4,
@@ -84,6 +91,10 @@ pub enum ShardStep<K, V> {
     Poll(usize, u64),
     /// `ready` at a shard with a stamp and a value.
     Ready(usize, u64, Arc<V>),
+    /// `ready_with` at a shard with a stamp, a value and a charge.
+    ReadyWith(usize, u64, Arc<V>, u64),
+    /// `ready_with_strictly` at a shard with a stamp, a value and a charge.
+    ReadyWithStrictly(usize, u64, Arc<V>, u64),
     /// `fail` at a shard with a stamp.
     Fail(usize, u64),
     /// `release` at a shard with a stamp.
@@ -168,12 +179,12 @@ impl<K: Hash + Eq + Clone, V: Drop, S: BuildHasher + Drop> Shards<K, V, S> {
     }
 
     /// Returns the shard of a key: its hash modulo the number of shards.
-    pub fn route(&self, key: &K) -> usize
+    pub fn route<Q: AsKey<K>>(&self, key: Q) -> usize
         ensures route { result ≡ key_shard S.BuildHasher S.Hasher.Hasher K.hash_input self.now
-            key.now }
+            (Q.owned key) }
         ensures within { result < length self.now.caches }
     {
-        choose_shard(&self.hasher, key, self.shards.len())
+        choose_shard::<K, Q, S>(&self.hasher, key, self.shards.len())
     }
 
     /// `begin` in the key's shard, which is returned first.
@@ -222,12 +233,13 @@ impl<K: Hash + Eq + Clone, V: Drop, S: BuildHasher + Drop> Shards<K, V, S> {
     /// `get` in the key's shard, which is returned before the stamp.
     ///
     /// Returns `Overflow` and `Memory` as `State::get` does.
-    pub fn get(&mut self, key: &K) -> Result<Option<(usize, u64, Arc<V>)>, Refusal>
+    pub fn get<Q: AsKey<K>>(&mut self, key: Q) -> Result<Option<(usize, u64, Arc<V>)>, Refusal>
         ensures shard { IfOk result (λ found. IfSome found
-            (λ r. r.0 ≡ key_shard S.BuildHasher S.Hasher.Hasher K.hash_input self.old key.now)) }
+            (λ r. r.0 ≡ key_shard S.BuildHasher S.Hasher.Hasher K.hash_input self.old
+            (Q.owned key))) }
         ensures step { StandsAt K.eq self.old
-            (key_shard S.BuildHasher S.Hasher.Hasher K.hash_input self.old key.now)
-            (ask.get key.now) (outcome_of_shard_get result) self.new }
+            (key_shard S.BuildHasher S.Hasher.Hasher K.hash_input self.old (Q.owned key))
+            (ask.get (Q.owned key)) (outcome_of_shard_get result) self.new }
         ensures lawful { AreLawful K.eq self.new }
     {
         let shard = self.route(key);
@@ -239,14 +251,19 @@ impl<K: Hash + Eq + Clone, V: Drop, S: BuildHasher + Drop> Shards<K, V, S> {
     /// no memory.
     ///
     /// Returns `Overflow` as `State::read` does.
-    pub fn read<T, G>(&mut self, key: &K, reader: G) -> Result<Option<(u64, T)>, Refusal>
+    pub fn read<Q: AsKey<K>, T, G>(
+        &mut self,
+        key: Q,
+        reader: G,
+    ) -> Result<Option<(u64, T)>, Refusal>
     where
         G: FnOnce(&V) -> T + Drop,
         requires callable { (v : V) → FindsAt K.eq self.old
-            (key_shard S.BuildHasher S.Hasher.Hasher K.hash_input self.old key.now) key.now v
-            → FnOnceTakesAt G.FnOnce reader v }
+            (key_shard S.BuildHasher S.Hasher.Hasher K.hash_input self.old (Q.owned key))
+            (Q.owned key) v → FnOnceTakesAt G.FnOnce reader v }
         ensures step { ReadsAt K.eq self.old (key_shard S.BuildHasher S.Hasher.Hasher K.hash_input
-            self.old key.now) key.now (FnOnceReturnsAt G.FnOnce reader) result self.new }
+            self.old (Q.owned key)) (Q.owned key) (FnOnceReturnsAt G.FnOnce reader) result
+            self.new }
         ensures lawful { AreLawful K.eq self.new }
     {
         let shard = self.route(key);
@@ -254,10 +271,10 @@ impl<K: Hash + Eq + Clone, V: Drop, S: BuildHasher + Drop> Shards<K, V, S> {
     }
 
     /// `advice_evict` in the key's shard. Takes no memory.
-    pub fn advice_evict(&mut self, key: &K) -> Evicted<K, V>
+    pub fn advice_evict<Q: AsKey<K>>(&mut self, key: Q) -> Evicted<K, V>
         ensures step { StandsAt K.eq self.old
-            (key_shard S.BuildHasher S.Hasher.Hasher K.hash_input self.old key.now)
-            (ask.advice_evict key.now) (outcome_of_evictions result) self.new }
+            (key_shard S.BuildHasher S.Hasher.Hasher K.hash_input self.old (Q.owned key))
+            (ask.advice_evict (Q.owned key)) (outcome_of_evictions result) self.new }
         ensures lawful { AreLawful K.eq self.new }
     {
         let shard = self.route(key);
@@ -265,10 +282,10 @@ impl<K: Hash + Eq + Clone, V: Drop, S: BuildHasher + Drop> Shards<K, V, S> {
     }
 
     /// `invalidate` in the key's shard. Takes no memory.
-    pub fn invalidate(&mut self, key: &K) -> Evicted<K, V>
+    pub fn invalidate<Q: AsKey<K>>(&mut self, key: Q) -> Evicted<K, V>
         ensures step { StandsAt K.eq self.old
-            (key_shard S.BuildHasher S.Hasher.Hasher K.hash_input self.old key.now)
-            (ask.invalidate key.now) (outcome_of_evictions result) self.new }
+            (key_shard S.BuildHasher S.Hasher.Hasher K.hash_input self.old (Q.owned key))
+            (ask.invalidate (Q.owned key)) (outcome_of_evictions result) self.new }
         ensures lawful { AreLawful K.eq self.new }
     {
         let shard = self.route(key);
@@ -348,6 +365,50 @@ impl<K: Hash + Eq + Clone, V: Drop, S: BuildHasher + Drop> Shards<K, V, S> {
             return Err(value);
         };
         cache.ready(stamp, value)
+    }
+
+    /// `ready_with` in a shard. Returns `Stale` with the value also if there is no such shard, and
+    /// `Overflow` as `State::ready_with` does. Takes no memory.
+    pub fn ready_with(
+        &mut self,
+        shard: usize,
+        stamp: u64,
+        value: Arc<V>,
+        charge: u64,
+    ) -> Result<Evicted<K, V>, (Refusal, Arc<V>)>
+        requires { 0 < charge }
+        ensures step { StandsAt K.eq self.old shard (ask.ready_with stamp (arc_value value) charge)
+            (outcome_of_ready_with result) self.new }
+        ensures back { IfErr result (λ e. e.1 ≡ value) }
+        ensures lawful { AreLawful K.eq self.new }
+    {
+        let Some(cache) = self.shards.get_mut(shard) else {
+            return Err((Refusal::Stale, value));
+        };
+        cache.ready_with(stamp, value, charge)
+    }
+
+    /// `ready_with_strictly` in a shard. The limit is that shard's capacity, and the total that of
+    /// the shard. Returns `Stale` with the value also if there is no such shard, and `Full` and
+    /// `Overflow` as `State::ready_with_strictly` does. Takes no memory.
+    pub fn ready_with_strictly(
+        &mut self,
+        shard: usize,
+        stamp: u64,
+        value: Arc<V>,
+        charge: u64,
+    ) -> Result<Evicted<K, V>, (Refusal, Arc<V>)>
+        requires { 0 < charge }
+        ensures step { StandsAt K.eq self.old shard
+            (ask.ready_with_strictly stamp (arc_value value) charge)
+            (outcome_of_ready_with result) self.new }
+        ensures back { IfErr result (λ e. e.1 ≡ value) }
+        ensures lawful { AreLawful K.eq self.new }
+    {
+        let Some(cache) = self.shards.get_mut(shard) else {
+            return Err((Refusal::Stale, value));
+        };
+        cache.ready_with_strictly(stamp, value, charge)
     }
 
     /// `fail` in a shard. Returns `Stale` also if there is no such shard. Takes no memory.
@@ -504,11 +565,13 @@ impl<K: Hash + Eq + Clone, V: Drop, S: BuildHasher + Drop> Shards<K, V, S> {
     }
 
     /// Returns whether the key has a ready value in its shard.
-    pub fn contains(&self, key: &K) -> bool
+    pub fn contains<Q: AsKey<K>>(&self, key: Q) -> bool
         ensures yes { IsTrue result → HasReadyKeyAt K.eq self.now
-            (key_shard S.BuildHasher S.Hasher.Hasher K.hash_input self.now key.now) key.now }
+            (key_shard S.BuildHasher S.Hasher.Hasher K.hash_input self.now (Q.owned key))
+            (Q.owned key) }
         ensures no { IsFalse result → IsUnreadyAt K.eq self.now
-            (key_shard S.BuildHasher S.Hasher.Hasher K.hash_input self.now key.now) key.now }
+            (key_shard S.BuildHasher S.Hasher.Hasher K.hash_input self.now (Q.owned key))
+            (Q.owned key) }
     {
         let shard = self.route(key);
         self.shards[shard].contains(key)

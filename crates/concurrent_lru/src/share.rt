@@ -107,7 +107,8 @@ impl<V, M: Sharing<V>> Model for Stored<V, M> {
 impl<V: Drop, M: Sharing<V>> Drop for Stored<V, M> {
     #[inline(always)]
     fn drop(self) {
-        M::end(self.into_share());
+        let Stored { share, values: _ } = self;
+        M::end(share);
     }
 }
 

@@ -9,11 +9,11 @@ ghost use Rattle.concurrent_lru.specs.Cache.{count_of, pinned_of, CopiesAreEqual
 ghost use Rattle.std.specs.FinMap as map;
 ghost use Rattle.concurrent_lru.specs.NodeTable.{Entry, entry_of, hash_of as hash_in, new_entry, chain_of, phase_of, ContainsNode, LacksIdle, IsNewStamp};
 ghost use Rattle.concurrent_lru.specs.Representation.{as_idle, GetsEntry};
-ghost use Rattle.concurrent_lru.specs.Entries.{cache_of, charges_of, ContainsNoStamp, ContainsNoKey, IsPlaceOfKey, ContainsPlace, ContainsIdleAt, ContainsHeldAt, ContainsFoundAt, GetsAt, GetsNodeAt, LeadsAt, IsReadyAt, Rewrites, RevivesAt, RestsAt, AddsOverHeld, AddsOverIdle, pins_at, held_with_pins, new_held};
+ghost use Rattle.concurrent_lru.specs.Entries.{cache_of, charges_of, ContainsNoStamp, ContainsNoKey, IsPlaceOfKey, ContainsPlace, ContainsIdleAt, ContainsHeldAt, ContainsFoundAt, FitsAt, GetsAt, GetsNodeAt, LeadsAt, IsReadyAt, Rewrites, RevivesAt, RestsAt, AddsOverHeld, AddsOverIdle, pins_at, held_with_pins, new_held};
 ghost use Rattle.concurrent_lru.specs.KeyHashes.{IsHashOf};
 ghost use Rattle.concurrent_lru.specs.Reads.{RenewsAt};
 ghost use Rattle.concurrent_lru.specs.StampIndex.{keeps_map, mapped_place, HasRoomFor};
-ghost use Rattle.concurrent_lru.specs.Steps.{held_in_phase, held_detached};
+ghost use Rattle.concurrent_lru.specs.Steps.{held_in_phase, held_with_charge, held_detached};
 
 mod key_hashes;
 mod removals;
@@ -24,6 +24,7 @@ mod word_hasher;
 
 pub use self::key_hashes::{KeyHash, seed_of_shard};
 pub use self::spot::{Hint, Spot};
+use crate::as_key::AsKey;
 use crate::node_table::{At, Found, Node, Nodes, Phase, Place, Refusal};
 use crate::table::stamp_index::StampIndex;
 use std::alloc::Global;
@@ -174,14 +175,15 @@ impl<K: Hash + Eq + Clone, V: Drop> Table<K, V> {
     /// Returns the node of the entry with an equal key. If there is none, returns the hash of the
     /// key, with which an entry can be added for it.
     #[inline(always)]
-    pub fn find_key(&self, key: &K) -> Result<Found<'_, K, V>, KeyHash>
-        ensures found { IfOk result (λ found. IsPlaceOfKey K.eq self.now found.place key.now) }
+    pub fn find_key<Q: AsKey<K>>(&self, key: Q) -> Result<Found<'_, K, V>, KeyHash>
+        ensures found { IfOk result (λ found. IsPlaceOfKey K.eq self.now found.place
+            (Q.owned key)) }
         ensures node { IfOk result (λ found. GetsNodeAt self.now found.place found.node.now) }
         ensures link { IfOk result (λ found. LeadsAt self.now found.link found.place) }
-        ensures absent { OnErr result (ContainsNoKey K.eq self.now key.now) }
-        ensures hash { IfErr result (λ hash. IsHashOf K.hash_input hash key.now) }
+        ensures absent { OnErr result (ContainsNoKey K.eq self.now (Q.owned key)) }
+        ensures hash { IfErr result (λ hash. IsHashOf K.hash_input hash (Q.owned key)) }
     {
-        let hash = KeyHash::of(self.seed, key);
+        let hash = KeyHash::of::<K, Q>(self.seed, key);
         match self.nodes.find_key(hash.number, key) {
             Some(found) => Ok(found),
             None => Err(hash),
@@ -327,6 +329,17 @@ impl<K: Hash + Eq + Clone, V: Drop> Table<K, V> {
         ensures { Rewrites (held_in_phase (phase_of phase)) self.old place self.new }
     {
         self.nodes.write_phase(place, link, phase);
+    }
+
+    /// Sets the charge of a held entry. Takes no memory.
+    pub fn set_charge(&mut self, place: Place, link: At<Node<K, V>>, charge: u64)
+        requires held { ContainsHeldAt self.old place }
+        requires link { LeadsAt self.old link place }
+        requires fits { FitsAt self.old place charge }
+        ensures { Rewrites (held_with_charge charge) self.old place self.new }
+    {
+        let was = self.nodes.write_charge(place, link, charge);
+        self.total = self.total - was + charge;
     }
 
     /// Removes the pins of a ready entry, which becomes the newest idle one. Takes no memory.

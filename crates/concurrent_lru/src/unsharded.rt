@@ -2,25 +2,28 @@
 //!
 //! Values are made and dropped without the lock, and read by `read` under it. Callers that ask for
 //! a value that is being made wait for it.
-ghost use Rattle.std.specs.Prelude.{◌≡◌, ◌≢◌, ◌+◌, ◌<◌, ◌≤◌, Some, None, Ok, Err, IfOk, IfErr, IfSome};
+ghost use Rattle.std.specs.Prelude.{◌≡◌, ◌≢◌, ℕ, ◌+◌, ◌<◌, ◌≤◌, Some, None, Ok, Err, IfOk, IfErr, IfSome};
 ghost use Rattle.std.specs.Fn.{FnOnceReturnsAt, FnOnceTakesAt};
 ghost use Rattle.concurrent_lru.specs.Cache.{CopiesAreEqual};
 ghost use Rattle.concurrent_lru.specs.Counts.{charge_in, entries_in};
-ghost use Rattle.concurrent_lru.specs.Pins.{IsHandleFor};
 ghost use Rattle.concurrent_lru.specs.ThreadedCalls.{IfInit};
+ghost use Rattle.concurrent_lru.specs.Visits.{CanJudge, CanVisit, VisitsEach};
 
+use crate::as_key::AsKey;
 pub use crate::counts::Counts;
-use crate::door::{Door, Lookup, Maker};
+use crate::door::{Door, Lookup};
 pub use crate::fit::{Anything, Fit};
 pub use crate::get_error::GetError;
 pub use crate::handle::CacheHandle;
 use crate::locked::HeldPin;
 pub use crate::lru_core::Refusal;
+use crate::lru_core::{Place, Spot};
+pub use crate::maker::{Begun, Maker};
 pub use crate::owned::OwnedHandle;
 use std::alloc::Global;
 use std::fmt;
 use std::hash::Hash;
-use std::sync::{Arc, Wait};
+use std::sync::Wait;
 
 /// A cache that threads share. `R` is the right to wait, passed in at creation; `F` is its mark,
 /// which relates its values to their keys.
@@ -29,7 +32,6 @@ use std::sync::{Arc, Wait};
 /// above the capacity only if nothing is idle, and the value of every ready entry fits its key.
 #[derive(Drop)]
 pub struct LruCache<K: Hash + Eq + Clone, V, R: Wait, F: Fit<K, V> = Anything> {
-    alloc: Global,
     pub(crate) door: Door<K, V, R, F>,
 }
 
@@ -70,7 +72,6 @@ impl<K: Hash + Eq + Clone + Drop, V: Drop, R: Wait, F: Fit<K, V>> LruCache<K, V,
         requires copies { CopiesAreEqual K.is_clone K.eq }
     {
         LruCache {
-            alloc,
             door: Door::new(alloc, rt, capacity, seed),
         }
     }
@@ -103,20 +104,24 @@ impl<K: Hash + Eq + Clone + Drop, V: Drop, R: Wait, F: Fit<K, V>> LruCache<K, V,
         self.find(&key)
     }
 
-    /// `get` with the key by reference. The key is not copied.
+    /// `get` with the key by reference, or by what stands for it ([`AsKey`]): a cache whose
+    /// keys are `String`s is asked by a `&str` too. The key is not copied.
     ///
     /// Returns `Overflow` and `Memory` as `get` does.
     #[inline(always)]
-    pub fn find(&self, key: &K) -> Result<Option<CacheHandle<'_, K, V, R, F>>, Refusal>
-        ensures key { IfOk result (λ found. IfSome found (λ h. h.key ≡ key.now)) }
+    pub fn find<Q: AsKey<K>>(&self, key: Q) -> Result<Option<CacheHandle<'_, K, V, R, F>>, Refusal>
+        ensures key { IfOk result (λ found. IfSome found (λ h. h.key ≡ Q.owned key)) }
         ensures charge { IfOk result (λ found. IfSome found (λ h. h.charge ≡ None)) }
-        ensures fits { IfOk result (λ found. IfSome found (λ h. F.fits key.now h.value)) }
+        ensures fits { IfOk result (λ found. IfSome found (λ h. F.fits (Q.owned key) h.value)) }
         ensures never_stale { IfErr result (λ e. e ≢ Refusal.Stale) }
     {
         let mut guard = self.door.lock();
         match guard.get(key)? {
             None => Ok(None),
-            Some(pin) => Ok(Some(CacheHandle::new(&self.door, pin))),
+            Some(pin) => Ok(Some(CacheHandle {
+                door: &self.door,
+                pin,
+            })),
         }
     }
 
@@ -131,12 +136,12 @@ impl<K: Hash + Eq + Clone + Drop, V: Drop, R: Wait, F: Fit<K, V>> LruCache<K, V,
     ///
     /// Returns `Overflow` if the entry has the maximum number of pins, as `get` does.
     #[inline(always)]
-    pub fn read<T, G>(&self, key: &K, reader: G) -> Result<Option<T>, Refusal>
+    pub fn read<Q: AsKey<K>, T, G>(&self, key: Q, reader: G) -> Result<Option<T>, Refusal>
     where
         G: FnOnce(&V) -> T + Drop,
-        requires callable { (v : V) → F.fits key.now v → FnOnceTakesAt G.FnOnce reader v }
+        requires callable { (v : V) → F.fits (Q.owned key) v → FnOnceTakesAt G.FnOnce reader v }
         ensures fits { IfOk result (λ found. IfSome found
-            (λ t. (v : V) × F.fits key.now v × FnOnceReturnsAt G.FnOnce reader v t)) }
+            (λ t. (v : V) × F.fits (Q.owned key) v × FnOnceReturnsAt G.FnOnce reader v t)) }
         ensures refused { IfErr result (λ e. e ≡ Refusal.Overflow) }
     {
         let mut guard = self.door.lock();
@@ -212,7 +217,7 @@ impl<K: Hash + Eq + Clone + Drop, V: Drop, R: Wait, F: Fit<K, V>> LruCache<K, V,
                     maker.fail(key);
                     Err(GetError::Init(error))
                 }
-                Ok(value) => match self.finish(maker, key, value) {
+                Ok(value) => match maker.ready(key, value) {
                     Ok(handle) => Ok(handle),
                     Err(refusal) => Err(GetError::of_refusal(refusal)),
                 },
@@ -267,7 +272,86 @@ impl<K: Hash + Eq + Clone + Drop, V: Drop, R: Wait, F: Fit<K, V>> LruCache<K, V,
             Lookup::Hit(handle) => Ok(handle),
             Lookup::Make(maker) => {
                 let value = init(key);
-                self.finish(maker, key, value)
+                maker.ready(key, value)
+            }
+        }
+    }
+
+    /// `get_or_try_init_by` with an `init` that also returns the charge of the value: it need not
+    /// be known before the value is made.
+    ///
+    /// While `init` runs, a new entry counts with a charge of 1. Then its charge is the one that
+    /// `init` returned, and idle entries are evicted for it. The handle's charge is the one that
+    /// `init` returned, or none if this call made no value.
+    ///
+    /// Returns `Init`, `Memory`, `Overflow` and `Full` as `get_or_try_init` does for a charge of 1.
+    /// Returns `Overflow` also if the charge that `init` returned would take the total past
+    /// `u64::MAX`, and `Full` if the limit is strict (`set_strict_limit`) and leaves no room for
+    /// it: then the value is dropped, nothing is evicted for it, and the entry is removed, or left
+    /// to a caller that waits for it.
+    pub fn get_or_try_init_with<E, I>(
+        &self,
+        key: &K,
+        init: I,
+    ) -> Result<CacheHandle<'_, K, V, R, F>, GetError<E>>
+    where
+        I: FnOnce(&K) -> Result<(V, u64), E> + Drop,
+        requires callable { FnOnceTakesAt I.FnOnce init key.now }
+        requires charged { (v : V) → (c : ℕ) → FnOnceReturnsAt I.FnOnce init key.now (Ok (v, c))
+            → 0 < c }
+        requires fits { (v : V) → (c : ℕ) → FnOnceReturnsAt I.FnOnce init key.now (Ok (v, c))
+            → F.fits key.now v }
+        ensures key { IfOk result (λ h. h.key ≡ key.now) }
+        ensures charge { IfOk result (λ h. IfSome h.charge
+            (λ c. FnOnceReturnsAt I.FnOnce init key.now (Ok (h.value, c)))) }
+        ensures fits { IfOk result (λ h. F.fits key.now h.value) }
+        ensures error { IfErr result (λ e. IfInit e
+            (λ x. FnOnceReturnsAt I.FnOnce init key.now (Err x))) }
+    {
+        // The least charge there is: if even that is refused, no value is made in vain.
+        match self.door.begin(key, 1) {
+            Err(refusal) => Err(GetError::of_refusal(refusal)),
+            Ok(Lookup::Hit(handle)) => Ok(handle.uncharged()),
+            Ok(Lookup::Make(maker)) => match init(key) {
+                Err(error) => {
+                    maker.fail(key);
+                    Err(GetError::Init(error))
+                }
+                Ok((value, charge)) => match maker.ready_with(key, value, charge) {
+                    Ok(handle) => Ok(handle),
+                    Err(refusal) => Err(GetError::of_refusal(refusal)),
+                },
+            },
+        }
+    }
+
+    /// `get_or_try_init_with` with an `init` that cannot fail.
+    ///
+    /// Returns `Memory`, `Overflow` and `Full` as `get_or_try_init_with` does.
+    pub fn get_or_init_with<I>(
+        &self,
+        key: &K,
+        init: I,
+    ) -> Result<CacheHandle<'_, K, V, R, F>, Refusal>
+    where
+        I: FnOnce(&K) -> (V, u64) + Drop,
+        requires callable { FnOnceTakesAt I.FnOnce init key.now }
+        requires charged { (v : V) → (c : ℕ) → FnOnceReturnsAt I.FnOnce init key.now (v, c)
+            → 0 < c }
+        requires fits { (v : V) → (c : ℕ) → FnOnceReturnsAt I.FnOnce init key.now (v, c)
+            → F.fits key.now v }
+        ensures key { IfOk result (λ h. h.key ≡ key.now) }
+        ensures charge { IfOk result (λ h. IfSome h.charge
+            (λ c. FnOnceReturnsAt I.FnOnce init key.now (h.value, c))) }
+        ensures fits { IfOk result (λ h. F.fits key.now h.value) }
+        ensures never_stale { IfErr result (λ e. e ≢ Refusal.Stale) }
+    {
+        match self.door.begin(key, 1)? {
+            Lookup::Hit(handle) => Ok(handle.uncharged()),
+            Lookup::Make(maker) => {
+                let (value, charge) = init(key);
+                let handle = maker.ready_with(key, value, charge)?;
+                Ok(handle)
             }
         }
     }
@@ -278,22 +362,23 @@ impl<K: Hash + Eq + Clone + Drop, V: Drop, R: Wait, F: Fit<K, V>> LruCache<K, V,
         self.advise(&key);
     }
 
-    /// `advice_evict` with the key by reference.
-    pub fn advise(&self, key: &K) {
+    /// `advice_evict` with the key by reference, or by what stands for it.
+    pub fn advise<Q: AsKey<K>>(&self, key: Q) {
         let mut guard = self.door.lock();
         let evicted = guard.advice_evict(key);
         drop(evicted.open(guard));
     }
 
-    /// Invalidates a key: whoever asks for it after this call gets a value that is made after it,
-    /// even while others hold the old one. Copies no key and takes no memory.
+    /// Invalidates a key: whoever asks for it after this call gets a value that was inserted, or
+    /// whose making began, after it, even while others hold the old one. Copies no key and takes no
+    /// memory.
     ///
     /// An idle entry is evicted. A held entry, ready or still being made, is detached from the key:
     /// no call finds it by the key any more, and the next one inserts a new entry. Its handles keep
     /// the value that they have, and callers that wait for its value get it. It is evicted when its
     /// last handle is dropped, and counts in `total_charge` and `len` until then. If the key has no
     /// entry, nothing happens.
-    pub fn invalidate(&self, key: &K) {
+    pub fn invalidate<Q: AsKey<K>>(&self, key: Q) {
         let mut guard = self.door.lock();
         let evicted = guard.invalidate(key);
         drop(evicted.open(guard));
@@ -325,13 +410,15 @@ impl<K: Hash + Eq + Clone + Drop, V: Drop, R: Wait, F: Fit<K, V>> LruCache<K, V,
         ensures fits { IfOk result (λ h. F.fits key.now h.value) }
         ensures never_stale { IfErr result (λ e. e ≢ Refusal.Stale) }
     {
-        let stored = Arc::new(self.alloc, value)?;
-        let read = Arc::try_clone(&stored)?;
+        let (stored, read) = self.door.share(value)?;
         let mut guard = self.door.lock();
-        match guard.put(key, charge, stored, read) {
+        match guard.insert(key, charge, stored, read) {
             Ok((pin, gone)) => {
                 drop(gone.open(guard));
-                Ok(CacheHandle::new(&self.door, pin))
+                Ok(CacheHandle {
+                    door: &self.door,
+                    pin,
+                })
             }
             Err((refusal, values)) => {
                 drop(values.open(guard));
@@ -345,6 +432,71 @@ impl<K: Hash + Eq + Clone + Drop, V: Drop, R: Wait, F: Fit<K, V>> LruCache<K, V,
         let mut guard = self.door.lock();
         let evicted = guard.prune();
         drop(evicted.open(guard));
+    }
+
+    /// Invalidates every key, as `invalidate` does one: no later call finds what a key had when the
+    /// call began, be it ready or still being made. Takes no memory.
+    ///
+    /// Idle entries are evicted, in an unspecified order. Held ones are detached from their keys:
+    /// their handles keep the values that they have, and callers that wait for a value get it.
+    ///
+    /// The lock is acquired for one entry at a time, so the call is not atomic: an entry that other
+    /// callers add meanwhile may stay or leave. It takes time proportional to the greatest number
+    /// of entries that the cache ever had at one time.
+    pub fn clear(&self) {
+        for number in 0..self.end_of_places() {
+            let mut guard = self.door.lock();
+            if let Some(spot) = guard.state().spot_in(Place::at(number)) {
+                let evicted = guard.invalidate_entry(&spot);
+                drop(evicted.open(guard));
+            }
+        }
+    }
+
+    /// Invalidates, as `invalidate` does, the key of each entry for which `keep` returns `false`.
+    /// `keep` is called with the key, the value and the charge of each entry that its key finds and
+    /// that has a value, in an unspecified order. Entries that are still being made stay. Takes no
+    /// memory.
+    ///
+    /// The lock is acquired for one entry at a time, and `keep` runs under it. It should be short,
+    /// and must not use this cache, since such a call would deadlock. The entries that it sees need
+    /// not all have been there at any one moment: one that other callers add meanwhile may be seen
+    /// or not. The call takes time proportional to the greatest number of entries that the cache
+    /// ever had at one time.
+    pub fn retain<G>(&self, mut keep: G)
+    where
+        G: FnMut(&K, &V, u64) -> bool + Drop,
+        requires { CanJudge F.fits G.FnMut keep }
+    {
+        self.retain_by(&mut keep);
+    }
+
+    // Does the same by reference, for a caller that goes over several caches.
+    pub(crate) fn retain_by<G>(&self, keep: &mut G)
+    where
+        G: FnMut(&K, &V, u64) -> bool,
+        requires { CanJudge F.fits G.FnMut keep.old }
+        ensures { CanJudge F.fits G.FnMut keep.new }
+    {
+        for number in 0..self.end_of_places() {
+            let mut guard = self.door.lock();
+            if let Some(entry) = guard.state().entry_in(Place::at(number)) {
+                let spot = Spot {
+                    stamp: entry.stamp,
+                    hint: entry.hint,
+                };
+                if !entry.is_detached && !keep(entry.key, entry.value, entry.charge) {
+                    let evicted = guard.invalidate_entry(&spot);
+                    drop(evicted.open(guard));
+                }
+            }
+        }
+    }
+
+    // Returns a number above those of all places that have an entry now.
+    fn end_of_places(&self) -> usize {
+        let guard = self.door.lock();
+        guard.state().end_of_places()
     }
 
     /// Sets the capacity, and evicts idle entries, oldest first, while the total is above it. Takes
@@ -365,11 +517,11 @@ impl<K: Hash + Eq + Clone + Drop, V: Drop, R: Wait, F: Fit<K, V>> LruCache<K, V,
     /// memory.
     ///
     /// Held entries stay and count, so a new entry may take the total above the capacity. While the
-    /// limit is strict, `get_or_init` and the calls named after it, and `insert`, return `Full`
-    /// instead, if the charge of a new entry exceeds the capacity together with the charges of the
-    /// held entries. Then nothing changes and nothing is evicted. A call that finds an entry adds
-    /// no charge, and is never refused in this way. A total that is above the capacity when the
-    /// limit becomes strict only falls until it is no longer.
+    /// limit is strict, `get_or_init` and the calls named after it, `begin`, `try_begin`, and
+    /// `insert` return `Full` instead, if the charge of a new entry exceeds the capacity together
+    /// with the charges of the held entries. Then nothing changes and nothing is evicted. A call
+    /// that finds an entry adds no charge, and is never refused in this way. A total that is above
+    /// the capacity when the limit becomes strict only falls until it is no longer.
     pub fn set_strict_limit(&self, strict: bool) {
         let mut guard = self.door.lock();
         guard.set_strict(strict);
@@ -411,7 +563,7 @@ impl<K: Hash + Eq + Clone + Drop, V: Drop, R: Wait, F: Fit<K, V>> LruCache<K, V,
     /// Returns whether the key has a ready value, as `get` looks for it: an entry that is still
     /// being made does not count. Pins nothing, so the value may be evicted before the next call,
     /// and leaves the order of eviction as it is. Takes no memory.
-    pub fn contains(&self, key: &K) -> bool {
+    pub fn contains<Q: AsKey<K>>(&self, key: Q) -> bool {
         let guard = self.door.lock();
         guard.state().contains(key)
     }
@@ -423,12 +575,13 @@ impl<K: Hash + Eq + Clone + Drop, V: Drop, R: Wait, F: Fit<K, V>> LruCache<K, V,
     ///
     /// The lock is held from the first call of `f` to the last, for a time proportional to the
     /// greatest number of entries that the cache ever had at one time. So `f` sees the entries of
-    /// one moment. It should be short, and must not use this cache, since such a call would
-    /// deadlock.
+    /// one moment, each once (`visits`), and need only take values that fit their keys. It should
+    /// be short, and must not use this cache, since such a call would deadlock.
     pub fn for_each<G>(&self, mut f: G)
     where
         G: FnMut(&K, &V, u64, u32) + Drop,
-        requires callable { G.IsAlwaysCallable f }
+        requires callable { CanVisit F.fits G.FnMut f }
+        ensures visits { (last : G) × VisitsEach K.eq F.fits G.FnMut f last }
     {
         self.for_each_by(&mut f);
     }
@@ -437,8 +590,9 @@ impl<K: Hash + Eq + Clone + Drop, V: Drop, R: Wait, F: Fit<K, V>> LruCache<K, V,
     pub(crate) fn for_each_by<G>(&self, f: &mut G)
     where
         G: FnMut(&K, &V, u64, u32),
-        requires callable { G.IsAlwaysCallable f.old }
-        ensures callable { G.IsAlwaysCallable f.new }
+        requires callable { CanVisit F.fits G.FnMut f.old }
+        ensures callable { CanVisit F.fits G.FnMut f.new }
+        ensures visits { VisitsEach K.eq F.fits G.FnMut f.old f.new }
     {
         let guard = self.door.lock();
         for entry in guard.state().entries() {
@@ -480,33 +634,6 @@ impl<K: Hash + Eq + Clone + Drop, V: Drop, R: Wait, F: Fit<K, V>> LruCache<K, V,
         ensures never_stale { IfErr result (λ e. e ≢ Refusal.Stale) }
     {
         self.door.repin(pin)
-    }
-
-    // Stores a value that was made and wakes the callers that wait for it. Gives up the making if
-    // memory is refused.
-    #[inline(always)]
-    fn finish<'a>(
-        &self,
-        maker: Maker<'a, K, V, R, F>,
-        key: &K,
-        value: V,
-    ) -> Result<CacheHandle<'a, K, V, R, F>, Refusal>
-        requires asked { maker.key ≡ key.now }
-        requires fits { F.fits key.now value }
-        ensures handle { IfOk result (λ h. IsHandleFor F.fits h key.now
-            (Some maker.entry.charge)) }
-        ensures value { IfOk result (λ h. h.value ≡ value) }
-        ensures refused { IfErr result (λ e. e ≡ Refusal.Memory) }
-    {
-        let Ok(first) = Arc::new(self.alloc, value) else {
-            maker.fail(key);
-            return Err(Refusal::Memory);
-        };
-        let Ok(second) = Arc::try_clone(&first) else {
-            maker.fail(key);
-            return Err(Refusal::Memory);
-        };
-        Ok(maker.ready(key, first, second))
     }
 }
 

@@ -101,6 +101,12 @@ Into before after t old new Step =
 abbrev pub AsksInto : ((K : Type 0) → Request K ℕ) → LruTold → AnyCache → AnyChain → AnyCache → Type 0
 AsksInto r t old gone new = IntoAny (λ K R E o out n. tells.Asks E o.state.cache (r K) t out n.state.cache × (n.counts ≡ o.counts)) old gone new
 
+-- The call gave an entry that was being made its value and a charge, strictly or not, with these
+-- entries in the chain. It is not counted.
+abbrev pub ReadiesInto : Bool → ℕ → ℕ → ℕ → LruTold → AnyCache → AnyChain → AnyCache → Type 0
+ReadiesInto strict stamp v charge t old gone new =
+    IntoAny (λ K R E o out n. tells.ReadiesWith E strict o.state.cache stamp v charge t out n.state.cache × (n.counts ≡ o.counts)) old gone new
+
 module _ {K R : Type 0} (of_kind : Option AnyCache → Result (Inner K R) ℕ) where
   -- A call by a key of one kind. If the handle leads to a cache with such keys, which of_kind
   -- tells, Step holds of that before and after the call. Otherwise the call returned the reason,

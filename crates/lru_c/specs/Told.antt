@@ -59,6 +59,10 @@ module _ {K : Type 0} where
   abbrev pub begin_by : Bool → K → ℕ → Request K ℕ
   begin_by strict k charge = cond strict (ask.begin_strictly k charge) (ask.begin k charge)
 
+  -- a ready with a charge, or a strict one
+  abbrev pub ready_by : Bool → ℕ → ℕ → ℕ → Request K ℕ
+  ready_by strict stamp v charge = cond strict (ask.ready_with_strictly stamp v charge) (ask.ready_with stamp v charge)
+
   -- an invalidation, which detaches an entry even if it is held, or an advice to evict
   abbrev pub evict_by : Bool → K → Request K ℕ
   evict_by even_held k = cond even_held (ask.invalidate k) (ask.advice_evict k)
@@ -84,6 +88,11 @@ module _ {K : Type 0} where
   abbrev pub TellsReleased : Result (List (Idle K ℕ)) Refusal → ℕ → List (Idle K ℕ) → Type 0
   TellsReleased (Ok out) c gone = (c ≡ code.done) × (gone ≡ out)
   TellsReleased (Err e) c gone = (c ≡ refusal_code e) × (gone ≡ [])
+
+  -- the same for a ready with a charge, which returns a value that it refuses
+  abbrev pub TellsCharged : Result (List (Idle K ℕ)) (Refusal × ℕ) → ℕ → List (Idle K ℕ) → Type 0
+  TellsCharged (Ok out) c gone = (c ≡ code.done) × (gone ≡ out)
+  TellsCharged (Err e) c gone = (c ≡ refusal_code e.0) × (gone ≡ [])
 
   -- The outcome that an answer stands for, unless a key was removed; what was put into a chain
   -- belongs to it. Any other code reads as a sum, and no step with such an answer has that outcome.
@@ -115,6 +124,11 @@ module _ {K : Type 0} where
     -- The same; a refusal put nothing into a chain, and the cache is lawful afterwards.
     abbrev pub Asks : Cache K ℕ → Request K ℕ → LruTold → List (Idle K ℕ) → Cache K ℕ → Type 0
     Asks old r t gone new = Tells old r t gone new × IsQuiet (outcome_told t gone) gone × IsLawful E new
+
+    -- The same for a ready with a charge, strict or not, which refuses a charge of 0.
+    abbrev pub ReadiesWith : Bool → Cache K ℕ → ℕ → ℕ → ℕ → LruTold → List (Idle K ℕ) → Cache K ℕ → Type 0
+    ReadiesWith strict old stamp v charge t gone new =
+        MatchBool (charge == 0) ((t ≡ bare code.no_charge) × IsSame old gone new) (Asks old (ready_by strict stamp v charge) t gone new)
 
     -- The same for a call that first makes a key, from bytes for example, of which IsKey holds; if
     -- memory for it is refused, nothing changed.

@@ -24,7 +24,7 @@ pub enum AnyCache {
 }
 
 impl AnyCache {
-    ghost use Rattle.lru_c.specs.Calls.{AsksAny, AsksInto, HoldsAll, IsNew, NumbersAny, ReservesAny, StatsAny};
+    ghost use Rattle.lru_c.specs.Calls.{AsksAny, AsksInto, HoldsAll, IsNew, NumbersAny, ReadiesInto, ReservesAny, StatsAny};
     ghost use Rattle.lru_c.specs.Chains.{IsEmpty};
     ghost use Rattle.lru_c.specs.Entries.{EntriesOfAny, EntryOfAny};
     ghost use Rattle.lru_c.specs.Keys.{is_kind};
@@ -71,6 +71,31 @@ impl AnyCache {
         match self {
             AnyCache::Bytes(cache) => steps::ready(&mut cache.state, pin, value),
             AnyCache::Words(cache) => steps::ready(&mut cache.state, pin, value),
+        }
+    }
+
+    // Stores a value with a charge, and puts what that evicts into a chain.
+    pub(crate) fn ready_with(
+        &mut self,
+        pin: LruPin,
+        value: u64,
+        charge: u64,
+        strict: bool,
+        gone: &mut AnyChain,
+    ) -> u32
+        requires { IsEmpty gone.old }
+        ensures { ReadiesInto strict pin.stamp value charge (bare result) self.old gone.new
+            self.new }
+    {
+        match self {
+            AnyCache::Bytes(cache) => {
+                let state = &mut cache.state;
+                gone.take_bytes(steps::ready_with(state, pin, value, charge, strict))
+            }
+            AnyCache::Words(cache) => {
+                let state = &mut cache.state;
+                gone.take_words(steps::ready_with(state, pin, value, charge, strict))
+            }
         }
     }
 

@@ -2,7 +2,7 @@
 ghost use Rattle.std.specs.Prelude.{◌≡◌, ◌==◌, ⊤, false, true, None, Some, MatchBool};
 ghost use Rattle.concurrent_lru.specs.Cache.{count_of, most_pins_by_default, pinned_of, sum_of};
 ghost use Rattle.concurrent_lru.specs.Request as ask;
-ghost use Rattle.lru_c.specs.Calls.{Asks, AsksInto, FreesInto, Into, Numbers, OpensCache, Reserves, TellsStats};
+ghost use Rattle.lru_c.specs.Calls.{Asks, AsksInto, FreesInto, Into, Numbers, OpensCache, ReadiesInto, Reserves, TellsStats};
 ghost use Rattle.lru_c.specs.Chains.{chain_code, IsEmpty, PopsOpen};
 ghost use Rattle.lru_c.specs.Codes as codes;
 ghost use Rattle.lru_c.specs.Entries.{EntriesOf, EntryOf};
@@ -120,6 +120,39 @@ pub extern "C" fn lru_cache_ready_at(
     match cache.get_mut() {
         Some(cache) => cache.ready(pin, value),
         None => code::CLOSED,
+    }
+}
+
+/// Stores the value of an entry that is being made, with a charge that takes the place of the one
+/// with which it was begun. What that evicts is put into a chain, oldest first. Takes the fields of
+/// the pin.
+///
+/// Returns `STALE` if no entry is being made under the stamp, `FULL` if the call is strict and the
+/// charge, with the charges of the other held entries, is above the capacity, `OVERFLOW` if the
+/// total would exceed `u64::MAX`, `NO_CHARGE` if the charge is 0, `CLOSED` if the cache or chain is
+/// not open, and `NOT_EMPTY` if the chain has entries. Nothing changes then: in particular, nothing
+/// is evicted, the entry is still being made, and the value is not taken.
+#[unsafe(no_mangle)]
+pub extern "C" fn lru_cache_ready_with_at(
+    cache: &mut LruCache,
+    stamp: u64,
+    hash: u64,
+    place: usize,
+    value: u64,
+    charge: u64,
+    strict: bool,
+    gone: &mut LruChain,
+) -> u32
+    ensures { Into gone.old gone.new (bare result) cache.old cache.new
+        (ReadiesInto strict stamp value charge (bare result)) }
+{
+    let pin = LruPin { stamp, hash, place };
+    match empty_chain(gone) {
+        Ok(chain) => match cache.get_mut() {
+            Some(cache) => cache.ready_with(pin, value, charge, strict, chain),
+            None => code::CLOSED,
+        },
+        Err(code) => code,
     }
 }
 

@@ -5,7 +5,7 @@ ghost use Rattle.concurrent_lru.specs.Request as ask;
 ghost use Rattle.lru_c.specs.Codes as codes;
 ghost use Rattle.lru_c.specs.Inserts.{TellsInsertBy, TellsInserted};
 ghost use Rattle.lru_c.specs.Opened.{number_of, TellsReady};
-ghost use Rattle.lru_c.specs.Told.{bare, begin_by, begun_told, evict_by, failed_code, found_told, numbered, refusal_code, request_of, Asks, TellsBegun, TellsReleased};
+ghost use Rattle.lru_c.specs.Told.{bare, begin_by, begun_told, evict_by, failed_code, found_told, numbered, refusal_code, request_of, Asks, ReadiesWith, TellsBegun, TellsCharged, TellsReleased};
 
 use crate::code;
 use crate::told::{LruPin, LruTold};
@@ -70,6 +70,40 @@ pub(crate) fn ready<K: Hash + Eq + Clone>(state: &mut State<K>, pin: LruPin, val
     match state.ready_at(&pin.spot(), value) {
         Ok(()) => code::DONE,
         Err(_back) => code::STALE,
+    }
+}
+
+// Stores a value with a charge, which takes the place of the one with which its entry was begun. If
+// the call is strict and the capacity has no room for the charge beside the other held entries,
+// stores nothing.
+pub(crate) fn ready_with<K: Hash + Eq + Clone>(
+    state: &mut State<K>,
+    pin: LruPin,
+    value: u64,
+    charge: u64,
+    strict: bool,
+) -> (u32, Evicted<K>)
+    ensures { ReadiesWith K.eq strict state.old.cache pin.stamp value charge (bare result.0)
+        result.1 state.new.cache }
+{
+    if charge == 0 {
+        return (code::NO_CHARGE, Evicted::none());
+    }
+    if strict {
+        told_of_charged(state.ready_with_strictly_at(&pin.spot(), value, charge))
+    } else {
+        told_of_charged(state.ready_with_at(&pin.spot(), value, charge))
+    }
+}
+
+// Returns the code of a `ready_with` with this result, and what it evicted.
+#[inline(always)]
+fn told_of_charged<K: Drop>(outcome: Result<Evicted<K>, (Refusal, u64)>) -> (u32, Evicted<K>)
+    ensures { TellsCharged outcome result.0 result.1 }
+{
+    match outcome {
+        Ok(gone) => (code::DONE, gone),
+        Err((refusal, _back)) => (code_of(refusal), Evicted::none()),
     }
 }
 

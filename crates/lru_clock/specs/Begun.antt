@@ -9,7 +9,7 @@ use Rattle.lru_clock.specs.declared.shard_state.ShardState.{ShardState}
 module _ {K V : Type 0} (E : K → K → Bool) (k : K) (old : ShardState K) where
   -- the key's entry was found; or its value is being made; or the caller makes it
   abbrev pub IsBegun : Begun V → ShardState K → Type 0
-  IsBegun (begun.Hit place value) new = new ≡ old
+  IsBegun (begun.Hit hold value) new = new ≡ old
   IsBegun begun.Wait new = (list_any (is_of E k) old.makings ≡ true) × (new ≡ old)
   IsBegun (begun.Make n) new =
       (list_any (is_of E k) old.makings ≡ false)

@@ -36,6 +36,17 @@ pub record HandleOf (K V : Type 0) : Type 0 where
   pub book : Book
   pub log : List (Event K V)
 
+-- what an owned handle shows: what a handle does, where `pinned` is the value of the entry, and
+-- `value` the handle's own
+pub record OwnedOf (K V : Type 0) : Type 0 where
+  pub key : K
+  pub charge : Option ℕ
+  pub pinned : V
+  pub value : V
+  pub stored : Option ℕ
+  pub book : Book
+  pub log : List (Event K V)
+
 -- the key, the tag of its hash, and the prefix of the shard's history after which the key was
 -- invalidated
 pub record InvalidatedOf (K V : Type 0) : Type 0 where

@@ -1,6 +1,6 @@
 -- The result of a search for a key in an index.
 use Rattle.std.specs.Prelude.{◌≡◌, ℕ, Bool, true, false, List, Some, slice_get}
-use Rattle.concurrent_lru.proofs.Probing.Fills.{Ends}
+use Rattle.concurrent_lru.specs.Probing.Probes.{Ends}
 use Rattle.lru_clock.specs.Index.{word_of}
 use Rattle.lru_clock.specs.Seats.{Seat, HasKeyAt, LacksKey}
 use Rattle.lru_clock.specs.declared.store.search.Search.{Search}

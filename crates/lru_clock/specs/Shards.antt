@@ -19,6 +19,14 @@ IsShardOf shards number x = slice_get shards (number % length shards) ≡ Some x
 abbrev pub IsBookOf : {K S H : Type 0} → builder.Ghosts S H → hasher.Ghosts H → (K → List (List ℕ)) → CacheOf S → K → Book → Type 0
 IsBookOf build run bytes c k book = IsShardOf c.books (key_number build run bytes c.hasher k) book
 
+-- the key's shard has this index
+abbrev pub IsIndexOf : {K S H : Type 0} → builder.Ghosts S H → hasher.Ghosts H → (K → List (List ℕ)) → CacheOf S → K → ℕ → Type 0
+IsIndexOf build run bytes c k index = index ≡ key_number build run bytes c.hasher k % length c.books
+
+-- the shard of this index has the history of this book
+abbrev pub IsBookAt : {S : Type 0} → CacheOf S → ℕ → Book → Type 0
+IsBookAt c index book = slice_get c.books index ≡ Some book
+
 -- it is the tag of the key: the high half of its number
 abbrev pub IsTagOf : {K S H : Type 0} → builder.Ghosts S H → hasher.Ghosts H → (K → List (List ℕ)) → CacheOf S → K → ℕ → Type 0
 IsTagOf build run bytes c k tag = tag ≡ key_number build run bytes c.hasher k / 4294967296

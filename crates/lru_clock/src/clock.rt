@@ -7,15 +7,18 @@ ghost use Rattle.std.specs.Prelude.{length, vec_len};
 ghost use Rattle.std.specs.Fn.{FnOnceReturnsAt, FnOnceTakesAt};
 ghost use Rattle.concurrent_lru.specs.Cache.{CopiesAreEqual};
 ghost use Rattle.concurrent_lru.specs.ThreadedCalls.{IfInit, IsNotInit};
-ghost use Rattle.lru_clock.specs.Shards.{IsBookOf, IsEvidenceOf, IsShardOf, IsTagOf};
+ghost use Rattle.lru_clock.specs.Shards.{IsBookAt, IsBookOf, IsEvidenceOf, IsIndexOf, IsShardOf};
+ghost use Rattle.lru_clock.specs.Shards.{IsTagOf};
 ghost use Rattle.concurrent_lru.specs.Sharded.{key_number};
 
 mod maker;
 mod makings;
+mod owned;
 mod pasts;
 mod sums;
 
 pub use crate::clock::maker::{Begun, Maker};
+pub use crate::clock::owned::OwnedHandle;
 pub use crate::clock_core::Invalidated;
 pub use crate::handle::CacheHandle;
 pub use crate::history::past::Past;
@@ -150,7 +153,8 @@ impl<
 
     /// `marked` with another maximum number of pins of an entry, from 1 to 1,073,741,822, which is
     /// the default. A number outside that range stands for the nearest number in it. A caller that
-    /// compares an entry's key has the entry pinned meanwhile.
+    /// compares an entry's key has the entry pinned meanwhile. Owned handles are counted by
+    /// themselves, with the same maximum.
     ///
     /// Returns `Memory` as `new` does.
     pub fn with_most_pins(
@@ -194,6 +198,23 @@ impl<K: Hash + Eq + Clone + Drop, V: Drop, R: Wait, S: BuildHasher, F: Fit<K, V>
         ensures tag { IsTagOf S.BuildHasher S.Hasher.Hasher K.hash_input self.now key.now result.1 }
     {
         choose_shard(&self.hasher, &self.shards, key)
+    }
+
+    // Returns the index of the shard of a key.
+    fn index_of(&self, key: &K) -> usize
+        ensures index { IsIndexOf S.BuildHasher S.Hasher.Hasher K.hash_input self.now key.now
+            result }
+        ensures within { result < length self.now.books }
+    {
+        (self.hasher.hash_one(key) % self.shards.len() as u64) as usize
+    }
+
+    // Returns the shard of an index.
+    fn shard_at(&self, index: usize) -> &Shard<K, V, F>
+        requires within { index < length self.now.books }
+        ensures { IsBookAt self.now index result.now.core.store.chronicle.first.book }
+    {
+        &self.shards[index]
     }
 
     /// Reserves room in each shard for its share of `entries` entries, those present included, one
@@ -333,6 +354,38 @@ impl<K: Hash + Eq + Clone + Drop, V: Drop, R: Wait, S: BuildHasher, F: Fit<K, V>
     pub fn prune(&self) {
         for shard in &self.shards {
             shard.prune(&self.rt);
+        }
+    }
+
+    /// Invalidates every key, as `invalidate` does one: no later call finds what a key had when the
+    /// call began, and a value that is being made is for its maker alone. Takes no memory.
+    ///
+    /// The lock of a shard is acquired for one entry at a time, so the call is not atomic: an entry
+    /// that other callers add meanwhile may stay or leave. Visits every slot.
+    pub fn clear(&self) {
+        for shard in &self.shards {
+            shard.clear(&self.rt);
+        }
+    }
+
+    /// Invalidates, as `invalidate` does, the key of each entry for which `keep` returns `false`.
+    /// `keep` is called with the key, the value and the charge of each entry that its key finds, in
+    /// an unspecified order. Values that are being made stay. Does not count as a use of an entry.
+    /// Takes no memory.
+    ///
+    /// The lock of a shard is acquired for one entry at a time, and `keep` runs under it. It should
+    /// be short, and must neither use this cache nor drop a handle of it, since that could
+    /// deadlock. An entry that other callers add meanwhile may be seen or not. While `keep` looks
+    /// at an entry, the entry has one pin more; what exceeds the capacity afterwards is evicted.
+    /// Visits every slot.
+    pub fn retain<G>(&self, mut keep: G)
+    where
+        G: FnMut(&K, &V, u64) -> bool + Drop,
+        requires callable { (f : G) (k : _) (v : _) (charge : _)
+            → F.fits k.now v.now → G.pre f k v charge }
+    {
+        for shard in &self.shards {
+            shard.retain(&self.rt, &mut keep);
         }
     }
 

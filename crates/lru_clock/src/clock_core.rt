@@ -24,7 +24,7 @@ pub use crate::clock_core::replacements::Way;
 pub use crate::excess::ExcessFlag;
 use crate::history::past::Past;
 pub use crate::shard_state::ShardState;
-pub use crate::store::{Left, Looks, MOST_PINS, PinAt, Released};
+pub use crate::store::{HoldAt, Left, Looks, MOST_PINS, PinAt, Released};
 use crate::store::{Slot, Store};
 use concurrent_lru::fit::Fit;
 use concurrent_lru::sharded::Refusal;

@@ -6,7 +6,7 @@ ghost use Rattle.lru_clock.specs.Hits.{HasArrived};
 
 use crate::history::Log;
 use crate::shard::Shard;
-use crate::store::{PinAt, Released};
+use crate::store::{Hold, PinAt, Released};
 use concurrent_lru::fit::{Anything, Fit};
 use concurrent_lru::sharded::Refusal;
 use concurrent_lru::shown::Shown;
@@ -92,6 +92,24 @@ impl<'a, K: Hash + Eq + Clone, V, R: Wait, F: Fit<K, V>> CacheHandle<'a, K, V, R
 }
 
 impl<'a, K: Hash + Eq + Clone + Drop, V: Drop, R: Wait, F: Fit<K, V>> CacheHandle<'a, K, V, R, F> {
+    /// Holds the entry for a handle that borrows nothing, and returns the charge that was asked for
+    /// too.
+    ///
+    /// Returns `Overflow` if the entry has the maximum number of such handles.
+    pub(crate) fn hold(&self) -> Result<(Hold<K, V, F>, Shown<Option<u64>>), Refusal>
+        ensures key { IfOk result (λ held. held.0.key ≡ self.now.key) }
+        ensures charge { IfOk result (λ held. held.1.value ≡ self.now.charge) }
+        ensures value { IfOk result (λ held. held.0.value ≡ self.now.value) }
+        ensures stored { IfOk result (λ held. held.0.stored ≡ self.now.stored) }
+        ensures seen { IfOk result
+            (λ held. (held.0.book ≡ self.now.book) × (held.0.log ≡ self.now.log)) }
+        ensures refused { IfErr result (λ e. e ≡ Refusal.Overflow) }
+    {
+        let most_holds = self.shard.core.most_pins;
+        let hold = self.found.pin.hold(self.found.place, most_holds)?;
+        Ok((hold, self.charge.again()))
+    }
+
     /// Returns another handle of the same value, which pins its entry once more, even after an
     /// `invalidate` of its key. No key is looked up, and this counts as no use of the entry.
     /// Acquires no lock, and takes no memory.

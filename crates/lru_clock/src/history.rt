@@ -223,18 +223,17 @@ impl<K, V> Chronicle<K, V> {
         ensures begun { IfSome result (λ n. n.1 ≤ n.0) }
         ensures ticket { IfSome ticket (λ t. IfSome result (λ n. n.1 ≡ t)) }
     {
-        let Some(ticket) = ticket else {
-            let (number, seen) = self.draw()?;
-            return Some((number, number, seen));
-        };
-        if passed < ticket {
-            let (last, seen) = self.numbers.look(&self.first);
-            if ticket <= last {
-                return Some((ticket, ticket, seen));
+        if let Some(ticket) = ticket {
+            if passed < ticket {
+                let (last, seen) = self.numbers.look(&self.first);
+                if ticket <= last {
+                    return Some((ticket, ticket, seen));
+                }
             }
         }
         let (number, seen) = self.draw()?;
-        // Always so, since the ticket was drawn before.
+        let ticket = ticket.unwrap_or(number);
+        // Always so, since a ticket was drawn before.
         if ticket <= number {
             Some((number, ticket, seen))
         } else {

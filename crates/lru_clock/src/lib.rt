@@ -12,7 +12,7 @@
 //! making that began after all that the past had seen at the invalidation.
 //!
 //! The caches of `concurrent_lru` evict in exact LRU order. This one has most of their calls, and
-//! the same marks and errors.
+//! the same marks and errors. Its owned handles have a clone of the value.
 #![tactic(auto)]
 
 pub mod clock;

@@ -179,6 +179,21 @@ impl<K: Eq + Drop> Makings<K> {
         }
     }
 
+    /// Invalidates the making of every key's value.
+    pub fn invalidate_all(&mut self) {
+        for at in 0..self.makings.len() {
+            self.mark(at);
+        }
+    }
+
+    // Invalidates the making at an index, if there is one.
+    fn mark(&mut self, at: usize) {
+        if at >= self.makings.len() {
+            return;
+        }
+        self.makings[at].is_invalidated = true;
+    }
+
     // Returns where the making of a key's value is that was not invalidated.
     fn find(&self, key: &K) -> Option<usize>
         ensures { MatchOption result (list_any (is_of K.eq key.now) self.now ≡ false)

@@ -17,6 +17,7 @@
 //! Nothing here looks at a slot, and no entry depends on it: a wrong bit or ghost costs hits, and
 //! nothing else.
 ghost use Rattle.std.specs.Prelude.{◌≡◌, ◌<◌};
+ghost use Rattle.lru_clock.specs.Bits.{has_bit};
 ghost use Rattle.lru_clock.specs.Ghosts.{ghosts_of};
 ghost use Rattle.lru_clock.specs.Orders.{no_order, first_border, moved_border, ratio as ratio_of};
 ghost use Rattle.lru_clock.specs.Orders.{begun, ended, came, left, IsWidened};
@@ -175,8 +176,7 @@ impl Order {
             return Second::Nowhere;
         };
         self.sweep = place + 1;
-        if self.youngs.has(place) {
-            self.youngs.remove(place);
+        if self.youngs.remove(place) {
             Second::Young
         } else {
             Second::Old(place)
@@ -204,14 +204,16 @@ impl Order {
         place
     }
 
-    /// The entry at a place is no longer on trial.
-    pub fn end_trial(&mut self, place: u32, charge: u64)
-        ensures { self.new ≡ ended place charge self.old }
+    /// The entry at a place is no longer on trial. Returns whether it was.
+    pub fn end_trial(&mut self, place: u32, charge: u64) -> bool
+        ensures was { result ≡ has_bit self.old.trials place }
+        ensures ended { self.new ≡ ended place charge self.old }
     {
-        if self.trials.has(place) {
-            self.trials.remove(place);
+        let is_on_trial = self.trials.remove(place);
+        if is_on_trial {
             self.trial = self.trial.saturating_sub(charge);
         }
+        is_on_trial
     }
 
     /// The entry at a place left. It has a ghost if there is a tag.
@@ -219,7 +221,7 @@ impl Order {
     pub fn leave(&mut self, place: u32, charge: u64, tag: Option<u32>)
         ensures { self.new ≡ left place charge tag self.old }
     {
-        let is_on_trial = self.trials.has(place);
+        let is_on_trial = self.end_trial(place, charge);
         if let Some(tag) = tag {
             let part = if is_on_trial { Part::Trial } else { Part::Main };
             self.ghosts.add(tag, part);
@@ -229,7 +231,6 @@ impl Order {
         } else {
             self.youngs.add(place);
         }
-        self.end_trial(place, charge);
     }
 
     /// An entry came to a place. It is on trial, unless its tag has a ghost.

@@ -27,7 +27,7 @@ use crate::order::{Cost, Look, Looked, Order};
 pub use crate::store::looks::Looks;
 pub use crate::store::seats::{Reservation, Seats};
 use crate::store::slot::Claimed;
-pub use crate::store::slot::{Kept, MOST_PINS, PinAt, Released, Slot, Taken};
+pub use crate::store::slot::{Hold, HoldAt, Kept, MOST_PINS, PinAt, Released, Slot, Taken};
 use boxcar::slot::{OnceSlot, SlotRule};
 use boxcar::tag::{Names, Tag};
 use concurrent_lru::fit::Fit;
@@ -402,6 +402,34 @@ impl<K: Eq + Drop, V: Drop, F: Fit<K, V>> Store<K, V, F> {
             (λ taken. taken.claimed.book ≡ self.now.chronicle.first.book) }
     {
         self.slot(place)?.take_invalidated(place)
+    }
+
+    /// Holds the entry of a hold once more.
+    ///
+    /// Returns `Overflow` if the entry has this many holds.
+    pub fn hold_again(
+        &self,
+        hold: &Hold<K, V, F>,
+        most_holds: u64,
+    ) -> Result<Hold<K, V, F>, Refusal>
+        requires book { hold.now.book ≡ self.now.chronicle.first.book }
+        requires limit { most_holds < 1073741823 }
+        ensures hold { IfOk result (λ h. h ≡ hold.now) }
+        ensures refused { IfErr result (λ e. e ≡ Refusal.Overflow) }
+    {
+        match self.slot(hold.place()) {
+            Some(slot) => slot.hold_again(hold, most_holds),
+            // Never so, since a hold is of a slot.
+            None => Err(Refusal::Overflow),
+        }
+    }
+
+    /// Ends a hold, as `Hold::end` does.
+    pub fn end_hold(&self, hold: Hold<K, V, F>) -> Option<Released>
+        requires book { hold.book ≡ self.now.chronicle.first.book }
+    {
+        let slot = self.slot(hold.place());
+        hold.end(slot)
     }
 
     /// Returns the index, for those who read it without the lock.

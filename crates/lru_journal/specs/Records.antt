@@ -17,6 +17,8 @@ module _ {K : Type 0} where
   request_of_recorded (step.BeginStrictly k c) = ask.begin_strictly k c
   request_of_recorded (step.Poll s) = ask.poll s
   request_of_recorded (step.Ready s) = ask.ready s tt
+  request_of_recorded (step.ReadyWith s c) = ask.ready_with s tt c
+  request_of_recorded (step.ReadyWithStrictly s c) = ask.ready_with_strictly s tt c
   request_of_recorded (step.Fail s) = ask.fail s
   request_of_recorded (step.Get k) = ask.get k
   request_of_recorded (step.Release s) = ask.release s

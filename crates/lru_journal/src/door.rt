@@ -1,13 +1,16 @@
-//! The lock of a twin. Each call acquires it once, for one call of the journal. What this took out
-//! of the cache is dropped after the lock is released.
-ghost use Rattle.std.specs.Prelude.{◌≡◌, IfErr};
-ghost use Rattle.lru_journal.specs.Tallies.{all_parts, AreExactly, IsTallied};
+//! The lock of a twin. Each call acquires it once, makes one call of the journal, and notes its
+//! record. What the call took out of the cache is dropped after the lock is released.
+ghost use Rattle.std.specs.Prelude.{◌≡◌, ◌++◌, ◌∷◌, [], IfOk, OnErr};
+ghost use Rattle.crossbeam_utils.specs.Seq.{cell_view};
+ghost use Rattle.lru_journal.specs.Tallies.{knower, all_parts, AreExactly, Receives};
 
 use crate::journal::Journal;
-use crate::tally::{Cell, Identity, Tally};
+use crate::record::Record;
+use crate::tally::{Cell, CellPass, Identity, Tally, append};
 use crate::twin_state::TwinState;
-use crate::twin_state::calls::JournalCall;
+use concurrent_lru::sealed::Sealed;
 use std::hash::Hash;
+use std::marker::Brand;
 use std::sync::{Mutex, MutexGuard, Wait};
 
 /// The lock, the cell of the tallies, and the right to wait.
@@ -19,11 +22,9 @@ pub struct Door<K: Hash + Eq + Clone, V, R, I: Identity> {
     pub ghost own: { cell.table.shared.table_id ≡ I.name.table },
 }
 
-/// A debt: the lock is held. A call consumes this value, so there is one call for each time that
-/// the lock is acquired.
-pub struct Guard<'a, K: Hash + Eq + Clone, V, R, I: Identity> {
-    door: &'a Door<K, V, R, I>,
-    guard: MutexGuard<'a, TwinState<K, V, I>>,
+/// A debt: the lock is held. Only `unlock` takes it, with the answer of the call that was made.
+pub struct Guard<'a, K: Hash + Eq + Clone, V, I: Identity> {
+    pub(crate) state: MutexGuard<'a, TwinState<K, V, I>>,
 }
 
 impl<K: Hash + Eq + Clone, V, R, I: Identity> Door<K, V, R, I> {
@@ -48,10 +49,51 @@ impl<K: Hash + Eq + Clone, V, R, I: Identity> Door<K, V, R, I> {
 
 impl<K: Hash + Eq + Clone, V: Drop, R: Wait + Drop, I: Identity> Door<K, V, R, I> {
     /// Acquires the lock for one call.
-    pub(crate) fn lock(&self) -> Guard<'_, K, V, R, I> {
+    pub(crate) fn lock(&self) -> Guard<'_, K, V, I> {
         Guard {
-            door: self,
-            guard: self.state.lock(&self.rt),
+            state: self.state.lock(&self.rt),
+        }
+    }
+
+    /// Adds the journal's last record to the cell, and its receipt to the tally, if the answer is
+    /// that of an accepted call. Returns the answer sealed, for `Guard::unlock`.
+    pub(crate) fn note<T, E>(
+        &self,
+        tally: &mut Tally<K, I>,
+        journal: &Journal<K, V>,
+        records_pass: &mut CellPass<K>,
+        answer: Result<T, E>,
+    ) -> Sealed<Result<T, E>>
+        requires records_pass { (records_pass.old.table_id ≡ I.name.table)
+            × (cell_view records_pass.old ≡ knower (cell_view records_pass.old).all) }
+        requires added { IfOk answer (λ _. (r : Record K)
+            × (journal.now.records ≡ (cell_view records_pass.old).all ++ r ∷ [])) }
+        requires unchanged { OnErr answer
+            (journal.now.records ≡ (cell_view records_pass.old).all) }
+        ensures answer { result ≡ answer }
+        ensures records_pass { (records_pass.new.table_id ≡ I.name.table)
+            × (cell_view records_pass.new ≡ knower journal.now.records) }
+        ensures parts { tally.new.parts ≡ tally.old.parts }
+        ensures accepted { IfOk answer (λ _. (r : Record K)
+            → journal.now.records ≡ (cell_view records_pass.old).all ++ r ∷ []
+            → Receives tally.old r tally.new) }
+        ensures refused { OnErr answer (tally.new ≡ tally.old) }
+    {
+        match answer {
+            Ok(answer) => {
+                let records = journal.records();
+                let number = records.len() - 1;
+                append::<K, Brand, I, R>(
+                    &self.rt,
+                    &self.cell,
+                    records_pass,
+                    tally,
+                    number,
+                    &records[number],
+                );
+                Sealed::of(Ok(answer))
+            }
+            Err(refused) => Sealed::of(Err(refused)),
         }
     }
 
@@ -66,21 +108,12 @@ impl<K: Hash + Eq + Clone, V: Drop, R: Wait + Drop, I: Identity> Door<K, V, R, I
     }
 }
 
-impl<'a, K: Hash + Eq + Clone, V: Drop, R: Wait + Drop, I: Identity> Guard<'a, K, V, R, I> {
-    /// Makes one call of the journal, as `TwinState::call` does. Its answer is unsealed after the
-    /// lock is released.
-    pub(crate) fn call<C: JournalCall<K, V>>(
-        self,
-        tally: &mut Tally<K, I>,
-        call: C,
-    ) -> Result<C::Answer, C::Refused>
-        requires { C.can_apply call }
-        ensures tallied { IsTallied tally.old (C.is_record call) result tally.new }
-        ensures parts { tally.new.parts ≡ tally.old.parts }
-        ensures refusal { IfErr result (C.may_refuse call) }
+impl<'a, K: Hash + Eq + Clone, V: Drop, I: Identity> Guard<'a, K, V, I> {
+    /// Releases the lock, and then returns the answer that was sealed under it.
+    pub(crate) fn unlock<T>(self, answer: Sealed<T>) -> T
+        ensures { result ≡ answer }
     {
-        let Self { door, mut guard } = self;
-        let answer = guard.call(&door.rt, &door.cell, tally, call);
-        answer.open(guard)
+        let Self { state } = self;
+        answer.open(state)
     }
 }

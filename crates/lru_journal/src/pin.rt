@@ -1,6 +1,6 @@
 //! What a caller of the twin holds of an entry: its stamp and its value.
 //!
-//! Only `release` releases a pin, since the release has to be recorded.
+//! Only `release` and `release_and_evict` release a pin, since a release has to be recorded.
 ghost use Rattle.std.specs.Prelude.{◌≡◌};
 ghost use Rattle.std.specs.Arc.{arc_value};
 ghost use Rattle.lru_journal.specs.Replay.{told_of_begun, told_of_found};

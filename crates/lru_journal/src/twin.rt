@@ -18,12 +18,26 @@ use crate::journal::Journal;
 use crate::pin::{Pin, Started, pin_of};
 use crate::record::Told;
 use crate::tally::{Identity, OnePart, Opening, Tally, add_tally, take_tally};
-use crate::twin_state::{TwinState, calls};
+use crate::twin_state::TwinState;
 use concurrent_lru::lru_core::{Failed, Refusal};
 use std::alloc::Global;
 use std::hash::Hash;
 use std::marker::PhantomData;
 use std::sync::{Arc, Wait};
+
+// Makes one call of the journal under the lock, notes its record, and returns its answer once the
+// lock is released. It is a macro, since no closure can be over a journal.
+macro_rules! call {
+    ($twin:ident, $tally:ident, $($call:tt)+) => {{
+        let mut guard = $twin.door.lock();
+        let state = &mut *guard.state;
+        let answer = state.journal.$($call)+;
+        let sealed = $twin
+            .door
+            .note($tally, &state.journal, &mut state.records_pass, answer);
+        guard.unlock(sealed)
+    }};
+}
 
 /// A journaled cache that threads share.
 ///
@@ -89,7 +103,7 @@ impl<K: Hash + Eq + Clone + Send + Sync, V: Drop + Send + Sync, R: Wait + Drop, 
         ensures parts { tally.new.parts ≡ tally.old.parts }
         ensures never_stale { IfErr result (λ e. e ≢ Refusal.Stale) }
     {
-        let (begun, evicted) = self.door.lock().call(tally, calls::Begin { key, charge })?;
+        let (begun, evicted) = call!(self, tally, begin(key, charge))?;
         drop(evicted);
         Ok(Started::of(begun))
     }
@@ -112,8 +126,7 @@ impl<K: Hash + Eq + Clone + Send + Sync, V: Drop + Send + Sync, R: Wait + Drop, 
         ensures parts { tally.new.parts ≡ tally.old.parts }
         ensures never_stale { IfErr result (λ e. e ≢ Refusal.Stale) }
     {
-        let call = calls::BeginStrictly { key, charge };
-        let (begun, evicted) = self.door.lock().call(tally, call)?;
+        let (begun, evicted) = call!(self, tally, begin_strictly(key, charge))?;
         drop(evicted);
         Ok(Started::of(begun))
     }
@@ -128,7 +141,7 @@ impl<K: Hash + Eq + Clone + Send + Sync, V: Drop + Send + Sync, R: Wait + Drop, 
         ensures parts { tally.new.parts ≡ tally.old.parts }
         ensures never_overflow { IfErr result (λ e. e ≢ Refusal.Overflow) }
     {
-        let begun = self.door.lock().call(tally, calls::Poll { stamp })?;
+        let begun = call!(self, tally, poll(stamp))?;
         Ok(Started::of(begun))
     }
 
@@ -147,7 +160,52 @@ impl<K: Hash + Eq + Clone + Send + Sync, V: Drop + Send + Sync, R: Wait + Drop, 
         ensures never_overflow { IfErr result (λ e. e.0 ≢ Refusal.Overflow) }
         ensures back { IfErr result (λ e. arc_value e.1 ≡ arc_value value) }
     {
-        self.door.lock().call(tally, calls::Ready { stamp, value })
+        call!(self, tally, ready(stamp, value))
+    }
+
+    /// Stores the value of an entry that is being made with its charge, which may evict idle
+    /// entries. A refusal returns the value.
+    ///
+    /// Returns `Overflow` and `Stale` as `Journal::ready_with` does.
+    pub fn ready_with(
+        &self,
+        tally: &mut Tally<K, I>,
+        stamp: u64,
+        value: Arc<V>,
+        charge: u64,
+    ) -> Result<(), (Refusal, Arc<V>)>
+        requires { 0 < charge }
+        ensures tallied { IsTallied tally.old
+            (λ _ r. r ≡ record_of (ask.ready_with stamp tt charge) Told.Done) result tally.new }
+        ensures parts { tally.new.parts ≡ tally.old.parts }
+        ensures back { IfErr result (λ e. arc_value e.1 ≡ arc_value value) }
+    {
+        let evicted = call!(self, tally, ready_with(stamp, value, charge))?;
+        drop(evicted);
+        Ok(())
+    }
+
+    /// Stores a value and its charge as `ready_with` does, but not if the charge would take the
+    /// total above the capacity. A refusal returns the value.
+    ///
+    /// Returns `Full`, `Overflow` and `Stale` as `Journal::ready_with_strictly` does.
+    pub fn ready_with_strictly(
+        &self,
+        tally: &mut Tally<K, I>,
+        stamp: u64,
+        value: Arc<V>,
+        charge: u64,
+    ) -> Result<(), (Refusal, Arc<V>)>
+        requires { 0 < charge }
+        ensures tallied { IsTallied tally.old
+            (λ _ r. r ≡ record_of (ask.ready_with_strictly stamp tt charge) Told.Done) result
+            tally.new }
+        ensures parts { tally.new.parts ≡ tally.old.parts }
+        ensures back { IfErr result (λ e. arc_value e.1 ≡ arc_value value) }
+    {
+        let evicted = call!(self, tally, ready_with_strictly(stamp, value, charge))?;
+        drop(evicted);
+        Ok(())
     }
 
     /// Gives up making a value, and releases the maker's pin.
@@ -159,7 +217,7 @@ impl<K: Hash + Eq + Clone + Send + Sync, V: Drop + Send + Sync, R: Wait + Drop, 
         ensures parts { tally.new.parts ≡ tally.old.parts }
         ensures never_overflow { IfErr result (λ e. e ≢ Refusal.Overflow) }
     {
-        self.door.lock().call(tally, calls::Fail { stamp })
+        call!(self, tally, fail(stamp))
     }
 
     /// Returns a pin of a key's value, or `None` if there is no ready value.
@@ -172,7 +230,7 @@ impl<K: Hash + Eq + Clone + Send + Sync, V: Drop + Send + Sync, R: Wait + Drop, 
         ensures parts { tally.new.parts ≡ tally.old.parts }
         ensures never_stale { IfErr result (λ e. e ≢ Refusal.Stale) }
     {
-        let found = self.door.lock().call(tally, calls::Get { key })?;
+        let found = call!(self, tally, get(key))?;
         Ok(pin_of(found))
     }
 
@@ -201,7 +259,7 @@ impl<K: Hash + Eq + Clone + Send + Sync, V: Drop + Send + Sync, R: Wait + Drop, 
             (λ r. (v : V) × FnOnceReturnsAt G.FnOnce reader v r.1)) }
         ensures never_stale { IfErr result (λ e. e ≢ Refusal.Stale) }
     {
-        self.door.lock().call(tally, calls::Read { key, reader })
+        call!(self, tally, read(key, reader))
     }
 
     /// Releases a pin. A refusal returns the pin.
@@ -214,8 +272,7 @@ impl<K: Hash + Eq + Clone + Send + Sync, V: Drop + Send + Sync, R: Wait + Drop, 
         ensures never_overflow { IfErr result (λ e. e.0 ≢ Refusal.Overflow) }
         ensures back { IfErr result (λ e. e.1 ≡ pin) }
     {
-        let stamp = pin.stamp();
-        match self.door.lock().call(tally, calls::Release { stamp }) {
+        match call!(self, tally, release(pin.stamp())) {
             Ok(evicted) => {
                 drop(evicted);
                 Ok(())
@@ -239,9 +296,7 @@ impl<K: Hash + Eq + Clone + Send + Sync, V: Drop + Send + Sync, R: Wait + Drop, 
         ensures never_overflow { IfErr result (λ e. e.0 ≢ Refusal.Overflow) }
         ensures back { IfErr result (λ e. e.1 ≡ pin) }
     {
-        let stamp = pin.stamp();
-        let call = calls::ReleaseAndEvict { stamp };
-        match self.door.lock().call(tally, call) {
+        match call!(self, tally, release_and_evict(pin.stamp())) {
             Ok(evicted) => {
                 drop(evicted);
                 Ok(())
@@ -261,7 +316,7 @@ impl<K: Hash + Eq + Clone + Send + Sync, V: Drop + Send + Sync, R: Wait + Drop, 
         ensures parts { tally.new.parts ≡ tally.old.parts }
         ensures pin { IfOk result (λ pin. pin.stamp ≡ stamp) }
     {
-        let value = self.door.lock().call(tally, calls::Repin { stamp })?;
+        let value = call!(self, tally, repin(stamp))?;
         Ok(Pin::new(stamp, value))
     }
 
@@ -273,7 +328,7 @@ impl<K: Hash + Eq + Clone + Send + Sync, V: Drop + Send + Sync, R: Wait + Drop, 
         ensures parts { tally.new.parts ≡ tally.old.parts }
         ensures memory { IfErr result (λ e. e ≡ Refusal.Memory) }
     {
-        let evicted = self.door.lock().call(tally, calls::AdviceEvict { key })?;
+        let evicted = call!(self, tally, advice_evict(key))?;
         drop(evicted);
         Ok(())
     }
@@ -290,7 +345,7 @@ impl<K: Hash + Eq + Clone + Send + Sync, V: Drop + Send + Sync, R: Wait + Drop, 
         ensures parts { tally.new.parts ≡ tally.old.parts }
         ensures memory { IfErr result (λ e. e ≡ Refusal.Memory) }
     {
-        let evicted = self.door.lock().call(tally, calls::Invalidate { key })?;
+        let evicted = call!(self, tally, invalidate(key))?;
         drop(evicted);
         Ok(())
     }
@@ -322,8 +377,7 @@ impl<K: Hash + Eq + Clone + Send + Sync, V: Drop + Send + Sync, R: Wait + Drop, 
         let Ok(pinned) = value.clone() else {
             return Err((Refusal::Memory, value));
         };
-        let call = calls::Insert { key, charge, value };
-        let inserted = self.door.lock().call(tally, call)?;
+        let inserted = call!(self, tally, insert(key, charge, value))?;
         Ok(Pin::new(inserted.stamp, pinned))
     }
 
@@ -351,8 +405,7 @@ impl<K: Hash + Eq + Clone + Send + Sync, V: Drop + Send + Sync, R: Wait + Drop, 
         let Ok(pinned) = value.clone() else {
             return Err((Refusal::Memory, value));
         };
-        let call = calls::InsertStrictly { key, charge, value };
-        let inserted = self.door.lock().call(tally, call)?;
+        let inserted = call!(self, tally, insert_strictly(key, charge, value))?;
         Ok(Pin::new(inserted.stamp, pinned))
     }
 
@@ -363,7 +416,7 @@ impl<K: Hash + Eq + Clone + Send + Sync, V: Drop + Send + Sync, R: Wait + Drop, 
         ensures parts { tally.new.parts ≡ tally.old.parts }
         ensures memory { IfErr result (λ e. e ≡ Refusal.Memory) }
     {
-        let evicted = self.door.lock().call(tally, calls::Prune)?;
+        let evicted = call!(self, tally, prune())?;
         drop(evicted);
         Ok(())
     }
@@ -378,10 +431,7 @@ impl<K: Hash + Eq + Clone + Send + Sync, V: Drop + Send + Sync, R: Wait + Drop, 
         ensures parts { tally.new.parts ≡ tally.old.parts }
         ensures memory { IfErr result (λ e. e ≡ Refusal.Memory) }
     {
-        let evicted = self
-            .door
-            .lock()
-            .call(tally, calls::SetCapacity { capacity })?;
+        let evicted = call!(self, tally, set_capacity(capacity))?;
         drop(evicted);
         Ok(())
     }
@@ -393,7 +443,7 @@ impl<K: Hash + Eq + Clone + Send + Sync, V: Drop + Send + Sync, R: Wait + Drop, 
         ensures parts { tally.new.parts ≡ tally.old.parts }
         ensures memory { IfErr result (λ e. e ≡ Refusal.Memory) }
     {
-        self.door.lock().call(tally, calls::Total)
+        call!(self, tally, total())
     }
 
     /// Returns the journal to whoever has the whole tally. Its records are one legal history from

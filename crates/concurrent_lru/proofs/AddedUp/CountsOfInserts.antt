@@ -1,14 +1,14 @@
 -- Counts that add up go on adding up where an insert replaces an entry.
-use Rattle.std.proofs.Common.{◌≡◌, ℕ, ◌+◌, ◌-◌, ◌<◌, ◌^◌, Bool, List, [], length, sym, ap, ◌∙◌, subst, arith}
+use Rattle.std.proofs.Common.{◌≡◌, ℕ, ◌+◌, ◌-◌, ◌*◌, ◌<◌, ◌≤◌, ◌^◌, Bool, List, [], length, sym, ap, ◌∙◌, subst, arith}
 use Rattle.std.specs.Cmp.{IsEquivalence}
 use Rattle.concurrent_lru.specs.Cache.{Cache, Idle, making, ready, IsLawful, charges, count_of, sum_of}
 use Rattle.concurrent_lru.specs.CountedCalls.{AddUp, IsSoundlyCounted, replaced}
-use Rattle.concurrent_lru.specs.Counts.{inserted, one_more, one_refusal}
+use Rattle.concurrent_lru.specs.Counts.{end_of_u64, inserted, one_more, one_refusal}
 use Rattle.concurrent_lru.specs.Inserts.{Replaces}
 use Rattle.concurrent_lru.specs.declared.counts.Counts.{Counts}
 use Rattle.concurrent_lru.specs.declared.step.Begun.TheVariants as begun
 use Rattle.concurrent_lru.proofs.AddedUp.SizesOfSteps.{Resizes, made_size, phase_size, same_size}
-use Rattle.concurrent_lru.proofs.AddedUp.CountsOfSteps.{Owes, insertion_fits, invalidate_evicts, left_evicted, owed_for_new, with_others}
+use Rattle.concurrent_lru.proofs.AddedUp.CountsOfSteps.{Owes, few_charges, few_evicted, insertion_fits, invalidate_evicts, left_evicted, owed_for_new, with_others}
 use Rattle.concurrent_lru.proofs.Steps.InsertOfKey.{begun_new, invalidated_absent}
 use Rattle.concurrent_lru.proofs.Steps.ValuesInserted.{invalidated_lawful}
 
@@ -18,6 +18,7 @@ module _ {K V : Type 0} where
     pub sizes : Resizes old new 1 charge (length gone + length out) (charges gone + charges out)
     pub charge_fits : charge < 2 ^ 64
     pub stamps : old.next + 1 < 2 ^ 64
+    pub few : charges gone + charges out ≤ (length gone + length out) * end_of_u64
 
 module _ {K V : Type 0} {E : K → K → Bool} where
   pub enters : (old new : Cache K V) (k : K) (charge : ℕ) (v : V) (s : ℕ) (gone out : List (Idle K V)) → IsEquivalence E → IsLawful E old → IsLawful E new → Replaces E old k charge v s gone out new → Enters old charge gone out new
@@ -49,6 +50,10 @@ module _ {K V : Type 0} {E : K → K → Bool} where
         sizes = record { entries = omega (arith, ae, be, ce, de); charge = omega (arith, af, bf, cf, df); next = omega (arith, an, bn, cn, dn) };
         charge_fits = omega (arith, f);
         stamps = omega (arith, g, an);
+        few =
+            let x : charges gone ≤ length gone * end_of_u64 = few_evicted E old mid gone l a in
+            let y : charges out ≤ length out * end_of_u64 = few_charges out (omega (arith, bf, f)) in
+            omega (arith, x, y);
       }
 
 module _ {K V : Type 0} where
@@ -63,7 +68,7 @@ module _ {K V : Type 0} where
   can_insert {E} old new n k charge v s gone out laws sound last r =
       let i = enters {E = E} old new k charge v s gone out laws sound.lawful last r in
       let fits = insertion_fits old n charge sound.adds_up i.charge_fits i.stamps in
-      record { entries = fits.0; charge_fits = fits.1; owes = owed_for_new old new n charge (length gone + length out) (charges gone + charges out) sound.adds_up i.sizes i.charge_fits i.stamps }
+      record { entries = fits.0; charge_fits = fits.1; owes = owed_for_new old new n charge (length gone + length out) (charges gone + charges out) sound.adds_up i.sizes i.charge_fits i.stamps i.few }
 
   -- how the code tells what was replaced and evicted, from what is left
   pub told_replaced : {c : Cache K V} {m after : Counts} {entries total : ℕ} (n : Counts) (charge : ℕ) (gone out : List (Idle K V)) → Owes c (inserted charge n) (length gone + length out) (charges gone + charges out) → m ≡ inserted charge n → after ≡ left_evicted m entries total → entries ≡ count_of c → total ≡ sum_of c
@@ -79,7 +84,9 @@ module _ {K V : Type 0} where
   replaced_adds_up c n charge gone out o =
       let e : count_of c + (length gone + length out) + n.evictions + n.removals ≡ n.entries_before + (n.insertions + 1) = o.entries in
       let f : sum_of c + (charges gone + charges out) + n.evicted_charge + n.removed_charge ≡ n.charge_before + (n.inserted_charge + charge) = o.charge in
-      record { entries = omega (arith, e); charge = omega (arith, f); stamps = o.stamps; entries_fit = o.entries_fit; charge_fits = o.charge_fits }
+      let few : charges gone + charges out ≤ (length gone + length out) * end_of_u64 = o.left_fits in
+      let left : n.evicted_charge + n.removed_charge ≤ (n.evictions + n.removals) * end_of_u64 = o.gone_fits in
+      record { entries = omega (arith, e); charge = omega (arith, f); stamps = o.stamps; entries_fit = o.entries_fit; charge_fits = o.charge_fits; gone_fits = omega (arith, few, left) }
 
   -- the invariant after an insert, and after one that is refused
   pub soundly_replaced : {E : K → K → Bool} (new : Cache K V) (n m : Counts) (charge : ℕ) (gone out : List (Idle K V)) → IsLawful E new → Owes new (inserted charge n) (length gone + length out) (charges gone + charges out) → m ≡ replaced gone out charge n

@@ -1,32 +1,33 @@
 -- Counts that add up go on adding up: what each step makes of them.
-use Rattle.std.proofs.Common.{◌≡◌, ◌≢◌, ℕ, ◌+◌, ◌-◌, ◌*◌, ◌<◌, ◌≤◌, ◌^◌, inl, inr, Bool, true, false, cond, List, [], length, Option, Some, None, Result, Ok, Err, OnOk, OnErr, refl, sym, ap, ◌∙◌, subst, arith, eqb, ◌==◌}
+use Rattle.std.proofs.Common.{◌≡◌, ◌≢◌, ℕ, ◌+◌, ◌-◌, ◌*◌, ◌<◌, ◌≤◌, ◌^◌, inl, inr, Bool, true, false, cond, List, [], ◌∷◌, length, Option, Some, None, Result, Ok, Err, OnOk, OnErr, refl, sym, ap, ◌∙◌, subst, arith, eqb, ◌==◌}
 use Rattle.std.specs.Option.{option_map_or}
 use Rattle.std.specs.Ordering.{nat_cmp}
-use Rattle.std.specs.FinMap.{values, empty}
-use Rattle.std.proofs.lemmas.Bool.{eqb-true, eq-eqb, true≢false}
+use Rattle.std.specs.FinMap.{values, empty, remove}
+use Rattle.std.proofs.lemmas.Bool.{eqb-true, eq-eqb, ne_eqb, true≢false}
 use Rattle.std.proofs.lemmas.List.{length-append}
 use Rattle.std.proofs.lemmas.List.Sums.{sum_by-append}
 use Rattle.std.specs.declared.sync.Arc.{Arc}
 use Rattle.std.specs.declared.alloc.Global.{Global}
-use Rattle.concurrent_lru.specs.Results.{outcome_of_begin, outcome_of_get, outcome_of_poll, outcome_of_ready, outcome_of_repin, found_without_hint}
+use Rattle.concurrent_lru.specs.Results.{outcome_of_get, outcome_of_poll, outcome_of_ready, outcome_of_repin, found_without_hint}
 use Rattle.concurrent_lru.specs.Ready.{HasEqualKeyAt}
 use Rattle.concurrent_lru.specs.declared.step.Begun.{Begun}
 use Rattle.concurrent_lru.specs.declared.step.Begun.TheVariants as begun
 use Rattle.concurrent_lru.specs.Cache.{Cache, Idle, Held, Settles, IsLawful, charges, count_of, sum_of, empty_cache, most_pins_by_default, ready, making, untaken}
-use Rattle.concurrent_lru.specs.CountedCalls.{AddUp, LockedCache, IsSoundlyCounted, counted, counted_begin, counted_look, counted_poll, counted_repin, evicted, held_charge, is_insertion}
-use Rattle.concurrent_lru.specs.Counts.{counts_from, end_of_u64, inserted, one_failure, one_more, one_making, one_miss, removed}
+use Rattle.concurrent_lru.specs.CountedCalls.{AddUp, LockedCache, IsSoundlyCounted, counted, counted_look, counted_poll, counted_repin, evicted, held_charge}
+use Rattle.concurrent_lru.specs.Counts.{counts_from, end_of_u64, inserted, recharged, one_failure, one_more, one_making, one_miss, removed}
 use Rattle.concurrent_lru.specs.Reads.{Reads}
 use Rattle.concurrent_lru.specs.Request as ask
 use Rattle.concurrent_lru.specs.Request.{Request}
 use Rattle.concurrent_lru.specs.Reply as say
 use Rattle.concurrent_lru.specs.Reply.{Reply}
 use Rattle.concurrent_lru.specs.Runs.{Outcome, accepted, refused, Stands}
-use Rattle.concurrent_lru.specs.Steps.{Renews, Stores, Step, with_capacity}
+use Rattle.concurrent_lru.specs.Steps.{Charges, InvalidatesAt, Renews, Stores, Step, with_capacity, with_held}
 use Rattle.concurrent_lru.specs.declared.counts.Counts.{Counts}
 use Rattle.concurrent_lru.specs.declared.refusal.Refusal.{Refusal}
 use Rattle.concurrent_lru.specs.declared.refusal.Refusal.TheVariants.{Memory, Overflow, Stale, Full}
 use Rattle.concurrent_lru.specs.declared.table.spot.Hint.{Hint}
-use Rattle.concurrent_lru.proofs.AddedUp.SizesOfSteps.{Resizes, KeepsSize, Evicts, same_size, settled_size, joined_size, left_size, phase_size, hit_size, made_size, removed_size, rested_size, ended_size, released_and_evicted_size, repinned_size, detached_size, dropped_size, stayed_size, pruned_size, evicts_none}
+use Rattle.concurrent_lru.proofs.AddedUp.SizesOfSteps.{Resizes, KeepsSize, Evicts, length-change, length-remove, same_size, settled_size, joined_size, left_size, phase_size, hit_size, made_size, removed_size, rested_size, ended_size, released_and_evicted_size, repinned_size, detached_size, dropped_size, stayed_size, pruned_size, evicts_none}
+use Rattle.concurrent_lru.proofs.Steps.ChargeOfMaking.{given, sum-given, held_within}
 use Rattle.concurrent_lru.proofs.Steps.EmptyCache.{no_entries, empty_sum, empty_lawful}
 use Rattle.concurrent_lru.proofs.Steps.CasesOfSteps.{loose_begin}
 use Rattle.concurrent_lru.proofs.Steps.StaysLawful.{invalidates_lawful}
@@ -55,14 +56,27 @@ module _ {K V : Type 0} where
     pub stamps : c.next < 2 ^ 64
     pub entries_fit : n.entries_before + n.insertions ≤ c.next
     pub charge_fits : n.charge_before + n.inserted_charge ≤ c.next * end_of_u64
+    pub left_fits : left_charge ≤ left * end_of_u64
+    pub gone_fits : n.evicted_charge + n.removed_charge ≤ (n.evictions + n.removals) * end_of_u64
+
+  -- charges that fit a u64 together do so each
+  pub few_charges : (out : List (Idle K V)) → charges out < 2 ^ 64 → charges out ≤ length out * end_of_u64
+  few_charges [] fits = omega arith
+  few_charges (x ∷ xs) fits = let more : length (x ∷ xs) ≡ 1 + length xs = omega arith in omega (arith, fits, more)
+
+  pub few_evicted : (E : K → K → Bool) (old new : Cache K V) (out : List (Idle K V)) → IsLawful E old → Evicts old out new → charges out ≤ length out * end_of_u64
+  few_evicted E old new out l e =
+      let sum : sum_of new + charges out ≡ sum_of old + 0 = e.charge in
+      let fits : sum_of old < 2 ^ 64 = l.sum_fits in
+      few_charges out (omega (arith, sum, fits))
 
   -- counts that no law speaks of
   pub with_others : (c : Cache K V) (n : Counts) (hits misses waits refusals makings failures : ℕ) → AddUp c n → AddUp c (record n { hits = hits; misses = misses; waits = waits; refusals = refusals; makings = makings; failures = failures })
-  with_others c n hits misses waits refusals makings failures a = record { entries = a.entries; charge = a.charge; stamps = a.stamps; entries_fit = a.entries_fit; charge_fits = a.charge_fits }
+  with_others c n hits misses waits refusals makings failures a = record { entries = a.entries; charge = a.charge; stamps = a.stamps; entries_fit = a.entries_fit; charge_fits = a.charge_fits; gone_fits = a.gone_fits }
 
   -- entries left
-  pub owed : (old new : Cache K V) (n : Counts) (o g : ℕ) → AddUp old n → Resizes old new 0 0 o g → Owes new n o g
-  owed old new n o g a r =
+  pub owed : (old new : Cache K V) (n : Counts) (o g : ℕ) → AddUp old n → Resizes old new 0 0 o g → g ≤ o * end_of_u64 → Owes new n o g
+  owed old new n o g a r few =
       let e : count_of old + n.evictions + n.removals ≡ n.entries_before + n.insertions = a.entries in
       let f : sum_of old + n.evicted_charge + n.removed_charge ≡ n.charge_before + n.inserted_charge = a.charge in
       let s : old.next < 2 ^ 64 = a.stamps in
@@ -71,11 +85,11 @@ module _ {K V : Type 0} where
       let p : count_of new + o ≡ count_of old + 0 = r.entries in
       let q : sum_of new + g ≡ sum_of old + 0 = r.charge in
       let m : new.next ≡ old.next + 0 = r.next in
-      record { entries = omega (arith, e, p); charge = omega (arith, f, q); stamps = omega (arith, s, m); entries_fit = omega (arith, u, m); charge_fits = omega (arith, v, m) }
+      record { entries = omega (arith, e, p); charge = omega (arith, f, q); stamps = omega (arith, s, m); entries_fit = omega (arith, u, m); charge_fits = omega (arith, v, m); left_fits = few; gone_fits = a.gone_fits }
 
   -- an entry came, and others left
-  pub owed_for_new : (old new : Cache K V) (n : Counts) (charge o g : ℕ) → AddUp old n → Resizes old new 1 charge o g → charge < 2 ^ 64 → old.next + 1 < 2 ^ 64 → Owes new (inserted charge n) o g
-  owed_for_new old new n charge o g a r fits stamps =
+  pub owed_for_new : (old new : Cache K V) (n : Counts) (charge o g : ℕ) → AddUp old n → Resizes old new 1 charge o g → charge < 2 ^ 64 → old.next + 1 < 2 ^ 64 → g ≤ o * end_of_u64 → Owes new (inserted charge n) o g
+  owed_for_new old new n charge o g a r fits stamps few =
       let e : count_of old + n.evictions + n.removals ≡ n.entries_before + n.insertions = a.entries in
       let f : sum_of old + n.evicted_charge + n.removed_charge ≡ n.charge_before + n.inserted_charge = a.charge in
       let u : n.entries_before + n.insertions ≤ old.next = a.entries_fit in
@@ -83,30 +97,34 @@ module _ {K V : Type 0} where
       let p : count_of new + o ≡ count_of old + 1 = r.entries in
       let q : sum_of new + g ≡ sum_of old + charge = r.charge in
       let m : new.next ≡ old.next + 1 = r.next in
-      record { entries = omega (arith, e, p); charge = omega (arith, f, q); stamps = omega (arith, stamps, m); entries_fit = omega (arith, u, m); charge_fits = omega (arith, v, m, fits) }
+      record { entries = omega (arith, e, p); charge = omega (arith, f, q); stamps = omega (arith, stamps, m); entries_fit = omega (arith, u, m); charge_fits = omega (arith, v, m, fits); left_fits = few; gone_fits = a.gone_fits }
 
   -- what left is counted as evicted, or as removed; or nothing left
   pub evictions_add_up : (c : Cache K V) (n : Counts) (out : List (Idle K V)) → Owes c n (length out) (charges out) → AddUp c (evicted out n)
   evictions_add_up c n out o =
       let e : count_of c + length out + n.evictions + n.removals ≡ n.entries_before + n.insertions = o.entries in
       let f : sum_of c + charges out + n.evicted_charge + n.removed_charge ≡ n.charge_before + n.inserted_charge = o.charge in
-      record { entries = omega (arith, e); charge = omega (arith, f); stamps = o.stamps; entries_fit = o.entries_fit; charge_fits = o.charge_fits }
+      let few : charges out ≤ length out * end_of_u64 = o.left_fits in
+      let gone : n.evicted_charge + n.removed_charge ≤ (n.evictions + n.removals) * end_of_u64 = o.gone_fits in
+      record { entries = omega (arith, e); charge = omega (arith, f); stamps = o.stamps; entries_fit = o.entries_fit; charge_fits = o.charge_fits; gone_fits = omega (arith, few, gone) }
 
   pub removal_adds_up : (c : Cache K V) (n : Counts) (g : ℕ) → Owes c n 1 g → AddUp c (removed g n)
   removal_adds_up c n g o =
       let e : count_of c + 1 + n.evictions + n.removals ≡ n.entries_before + n.insertions = o.entries in
       let f : sum_of c + g + n.evicted_charge + n.removed_charge ≡ n.charge_before + n.inserted_charge = o.charge in
-      record { entries = omega (arith, e); charge = omega (arith, f); stamps = o.stamps; entries_fit = o.entries_fit; charge_fits = o.charge_fits }
+      let few : g ≤ 1 * end_of_u64 = o.left_fits in
+      let gone : n.evicted_charge + n.removed_charge ≤ (n.evictions + n.removals) * end_of_u64 = o.gone_fits in
+      record { entries = omega (arith, e); charge = omega (arith, f); stamps = o.stamps; entries_fit = o.entries_fit; charge_fits = o.charge_fits; gone_fits = omega (arith, few, gone) }
 
   pub kept_adds_up : (old new : Cache K V) (n : Counts) → AddUp old n → KeepsSize old new → AddUp new n
   kept_adds_up old new n a k =
-      let o = owed old new n 0 0 a k in
+      let o = owed old new n 0 0 a k (omega arith) in
       let e : count_of new + 0 + n.evictions + n.removals ≡ n.entries_before + n.insertions = o.entries in
       let f : sum_of new + 0 + n.evicted_charge + n.removed_charge ≡ n.charge_before + n.inserted_charge = o.charge in
-      record { entries = omega (arith, e); charge = omega (arith, f); stamps = o.stamps; entries_fit = o.entries_fit; charge_fits = o.charge_fits }
+      record { entries = omega (arith, e); charge = omega (arith, f); stamps = o.stamps; entries_fit = o.entries_fit; charge_fits = o.charge_fits; gone_fits = o.gone_fits }
 
-  pub evicting_adds_up : (old new : Cache K V) (n : Counts) (out : List (Idle K V)) → AddUp old n → Evicts old out new → AddUp new (evicted out n)
-  evicting_adds_up old new n out a e = evictions_add_up new n out (owed old new n (length out) (charges out) a e)
+  pub evicting_adds_up : {E : K → K → Bool} (old new : Cache K V) (n : Counts) (out : List (Idle K V)) → IsLawful E old → AddUp old n → Evicts old out new → AddUp new (evicted out n)
+  evicting_adds_up {E} old new n out l a e = evictions_add_up new n out (owed old new n (length out) (charges out) a e (few_evicted E old new out l e))
 
   -- what the code counts so is what left
   pub told_evicted : {c : Cache K V} {n m after : Counts} {entries charge : ℕ} (out : List (Idle K V)) → Owes c n (length out) (charges out) → m ≡ n → after ≡ left_evicted m entries charge → entries ≡ count_of c → charge ≡ sum_of c → after ≡ evicted out n
@@ -137,19 +155,20 @@ module _ {K V : Type 0} where
       let f : sum_of c + n.evicted_charge + n.removed_charge ≡ n.charge_before + n.inserted_charge = a.charge in
       let u : n.entries_before + n.insertions ≤ c.next = a.entries_fit in
       let v : n.charge_before + n.inserted_charge ≤ c.next * end_of_u64 = a.charge_fits in
-      record { entries = omega arith; charge = omega arith; stamps = a.stamps; entries_fit = omega (arith, e, u); charge_fits = omega (arith, f, v) }
+      record { entries = omega arith; charge = omega arith; stamps = a.stamps; entries_fit = omega (arith, e, u); charge_fits = omega (arith, f, v); gone_fits = omega arith }
 
   pub empty_adds_up : (capacity most : ℕ) → AddUp (empty_cache {K = K} {V = V} capacity most 0) (counts_from 0 0)
   empty_adds_up capacity most =
       let a : length (values (empty {X = Held K V} {R = nat_cmp})) ≡ 0 = ap (λ es. length (Rattle.std.proofs.Common.map (λ e. e.1) es)) no_entries in
       let b : sum_of (empty_cache {K = K} {V = V} capacity most 0) ≡ 0 = empty_sum K V capacity most 0 in
-      record { entries = omega (arith, a); charge = omega (arith, b); stamps = omega arith; entries_fit = omega arith; charge_fits = omega arith }
+      record { entries = omega (arith, a); charge = omega (arith, b); stamps = omega arith; entries_fit = omega arith; charge_fits = omega arith; gone_fits = omega arith }
 
   -- a begin that is to make a value: by its stamp, whether it inserted the entry
   pub record Inserts (old : Cache K V) (charge s : ℕ) (out : List (Idle K V)) (new : Cache K V) : Type 0 where
     pub sizes : Resizes old new 1 charge (length out) (charges out)
     pub charge_fits : charge < 2 ^ 64
     pub stamps : old.next + 1 < 2 ^ 64
+    pub few : charges out ≤ length out * end_of_u64
 
   pub capacity_evicts : (old new : Cache K V) (m : ℕ) (out : List (Idle K V)) → Settles (with_capacity old m) out new → Evicts old out new
   capacity_evicts old new m out h =
@@ -165,6 +184,14 @@ module _ {K V : Type 0} where
   refusal_adds_up old n (ask.poll s) Stale a = a
   refusal_adds_up old n (ask.poll s) Full a = a
   refusal_adds_up old n (ask.ready s v) e a = a
+  refusal_adds_up old n (ask.ready_with s v charge) Overflow a = with_others old n n.hits n.misses n.waits (one_more n.refusals) n.makings n.failures a
+  refusal_adds_up old n (ask.ready_with s v charge) Memory a = a
+  refusal_adds_up old n (ask.ready_with s v charge) Stale a = a
+  refusal_adds_up old n (ask.ready_with s v charge) Full a = a
+  refusal_adds_up old n (ask.ready_with_strictly s v charge) Overflow a = with_others old n n.hits n.misses n.waits (one_more n.refusals) n.makings n.failures a
+  refusal_adds_up old n (ask.ready_with_strictly s v charge) Full a = with_others old n n.hits n.misses n.waits (one_more n.refusals) n.makings n.failures a
+  refusal_adds_up old n (ask.ready_with_strictly s v charge) Memory a = a
+  refusal_adds_up old n (ask.ready_with_strictly s v charge) Stale a = a
   refusal_adds_up old n (ask.fail s) e a = a
   refusal_adds_up old n (ask.release s) e a = a
   refusal_adds_up old n (ask.release_and_evict s) e a = a
@@ -185,7 +212,9 @@ module _ {K V : Type 0} where
     pub inserts : (old new : Cache K V) (k : K) (charge s : ℕ) (out : List (Idle K V)) → IsLawful E old → Step E old (ask.begin k charge) (say.make s) out new → s ≡ old.next → Inserts old charge s out new
     inserts old new k charge s out l (inl m) is =
         let f : sum_of old + charge < 2 ^ 64 = m.fits.0 in
-        record { sizes = made_size old new k charge s out l m; charge_fits = omega (arith, f); stamps = m.fits.1 }
+        let sizes = made_size old new k charge s out l m in
+        let sum : sum_of new + charges out ≡ sum_of old + charge = sizes.charge in
+        record { sizes = sizes; charge_fits = omega (arith, f); stamps = m.fits.1; few = few_charges out (omega (arith, f, sum)) }
     inserts old new k charge s out l (inr j) is =
         let low : s < old.next = l.below_next s j.entry.key j.entry.charge (inr (j.entry, j.holds.at, refl, refl)) in
         absurd (omega (arith, low, is))
@@ -208,6 +237,10 @@ module _ {K V : Type 0} where
     invalidate_evicts old new k out l (inl h) = dropped_size old new k out l h
     invalidate_evicts old new k out l (inr (inl h)) = evicts_none old new out (detached_size old new k out h) h.none
     invalidate_evicts old new k out l (inr (inr h)) = stayed_size old new out h.1
+
+    pub invalidate_at_evicts : (old new : Cache K V) (s : ℕ) (out : List (Idle K V)) → IsLawful E old → InvalidatesAt E old s out new → Evicts old out new
+    invalidate_at_evicts old new s out l (inl h) = invalidate_evicts old new h.0 out l h.3
+    invalidate_at_evicts old new s out l (inr h) = stayed_size old new out h.1
 
     -- an insert: an entry of its charge comes, and what it replaces and evicts leaves
     pub stored_size : (old new : Cache K V) (k : K) (charge : ℕ) (v : V) (s : ℕ) (out : List (Idle K V)) → IsLawful E old → Stores E old k charge v s out new → Inserts old charge s out new
@@ -232,6 +265,10 @@ module _ {K V : Type 0} where
           sizes = record { entries = omega (arith, ae, be, ce, n); charge = omega (arith, af, bf, cf, m); next = omega (arith, an, bn, cn) };
           charge_fits = omega (arith, f);
           stamps = omega (arith, g, an);
+          few =
+              let x : charges h.replaced ≤ length h.replaced * end_of_u64 = few_evicted E old h.mid h.replaced l a in
+              let y : charges h.evicted ≤ length h.evicted * end_of_u64 = few_charges h.evicted (omega (arith, bf, f)) in
+              omega (arith, n, m, x, y);
         }
 
     -- a release that evicts nothing keeps the size, and so does a read
@@ -253,24 +290,56 @@ module _ {K V : Type 0} where
         record { entries = omega (arith, ae, be); charge = omega (arith, af, bf); next = omega (arith, an, bn) }
 
     -- a making that fails for good: what is owed once its failure is counted
-    pub fail_owes : (old new : Cache K V) (n : Counts) (s : ℕ) (k : K) (out : List (Idle K V)) → AddUp old n → Step E old (ask.fail s) (say.removed k) out new → Owes new (one_failure n) 1 (held_charge old s)
-    fail_owes old new n s k out a h =
+    pub fail_owes : (old new : Cache K V) (n : Counts) (s : ℕ) (k : K) (out : List (Idle K V)) → IsLawful E old → AddUp old n → Step E old (ask.fail s) (say.removed k) out new → Owes new (one_failure n) 1 (held_charge old s)
+    fail_owes old new n s k out l a h =
+        let size = removed_size old new s k out h in
+        let sum : sum_of new + h.entry.charge ≡ sum_of old + 0 = size.charge in
+        let fits : sum_of old < 2 ^ 64 = l.sum_fits in
         subst (λ g. Owes new (one_failure n) 1 g) (sym (ap (λ e. option_map_or (λ x. x.charge) e 0) h.holds.at))
-        (owed old new (one_failure n) 1 h.entry.charge (with_others old n n.hits n.misses n.waits n.refusals n.makings (one_more n.failures) a) (removed_size old new s k out h))
+        (owed old new (one_failure n) 1 h.entry.charge (with_others old n n.hits n.misses n.waits n.refusals n.makings (one_more n.failures) a) size (omega (arith, sum, fits)))
+
+    -- a making that becomes ready with another charge: what is owed once that is counted
+    pub charge_owes : (old new : Cache K V) (n : Counts) (s : ℕ) (v : V) (charge : ℕ) (out : List (Idle K V)) → AddUp old n → Charges E old s v charge out new → Owes new (recharged (held_charge old s) charge n) (length out) (charges out)
+    charge_owes old new n s v charge out a h =
+        let was = h.entry.charge in
+        let mid = with_held old s (given v charge h.entry) in
+        let size = settled_size mid new out h.settles in
+        let cm : count_of mid ≡ count_of old = ap (λ m. length old.idle + m) (length-change old.held s h.entry (given v charge h.entry) h.holds.at) in
+        let one : length (values (remove old.held s)) + 1 ≡ length (values old.held) = length-remove old.held s h.entry h.holds.at in
+        let sm : sum_of mid + was ≡ sum_of old + charge = sum-given old s h.entry v charge h.holds.at in
+        let held : was ≤ sum_of old = held_within old s h.entry h.holds.at in
+        let fits : sum_of old + charge < 2 ^ 64 + was = h.fits in
+        let p : count_of new + length out ≡ count_of mid + 0 = size.entries in
+        let q : sum_of new + charges out ≡ sum_of mid + 0 = size.charge in
+        let m : new.next ≡ old.next + 0 = size.next in
+        let e : count_of old + n.evictions + n.removals ≡ n.entries_before + n.insertions = a.entries in
+        let f : sum_of old + n.evicted_charge + n.removed_charge ≡ n.charge_before + n.inserted_charge = a.charge in
+        let st : old.next < 2 ^ 64 = a.stamps in
+        let u : n.entries_before + n.insertions ≤ old.next = a.entries_fit in
+        let gone : n.evicted_charge + n.removed_charge ≤ (n.evictions + n.removals) * end_of_u64 = a.gone_fits in
+        subst (λ g. Owes new (recharged g charge n) (length out) (charges out)) (sym (ap (λ e. option_map_or (λ x. x.charge) e 0) h.holds.at)) record {
+          entries = omega (arith, p, cm, e);
+          charge = omega (arith, q, sm, f, held);
+          stamps = omega (arith, st, m);
+          entries_fit = omega (arith, u, m);
+          charge_fits = omega (arith, m, u, e, one, gone, f, sm, fits, held);
+          left_fits = few_charges out (omega (arith, q, sm, fits));
+          gone_fits = gone;
+        }
 
     make_adds_up : (old new : Cache K V) (n : Counts) (k : K) (charge s : ℕ) (out : List (Idle K V)) → IsLawful E old → AddUp old n → Step E old (ask.begin k charge) (say.make s) out new → AddUp new (counted old (ask.begin k charge) (accepted (say.make s) out) n)
     make_adds_up old new n k charge s out l a h =
         elim (s == old.next) as (λ b. (s == old.next) ≡ b → AddUp new (cond b (evicted out (inserted charge (one_making (one_miss n)))) (one_making (one_miss n)))) [
           | true ↦ λ b.
               let i = inserts old new k charge s out l h (eqb-true s old.next b) in
-              evictions_add_up new (inserted charge (one_making (one_miss n))) out (owed_for_new old new (one_making (one_miss n)) charge (length out) (charges out) (with_others old n n.hits (one_more n.misses) n.waits n.refusals (one_more n.makings) n.failures a) i.sizes i.charge_fits i.stamps)
+              evictions_add_up new (inserted charge (one_making (one_miss n))) out (owed_for_new old new (one_making (one_miss n)) charge (length out) (charges out) (with_others old n n.hits (one_more n.misses) n.waits n.refusals (one_more n.makings) n.failures a) i.sizes i.charge_fits i.stamps i.few)
           | false ↦ λ b. with_others new n n.hits (one_more n.misses) n.waits n.refusals (one_more n.makings) n.failures (kept_adds_up old new n a (takes_over old new k charge s out l h (λ is. true≢false (sym (eq-eqb s old.next is) ∙ b))))
         ] refl
 
     insert_adds_up : (old new : Cache K V) (n : Counts) (k : K) (charge : ℕ) (v : V) (s : ℕ) (out : List (Idle K V)) → IsLawful E old → AddUp old n → Step E old (ask.insert k charge v) (say.inserted s) out new → AddUp new (evicted out (inserted charge n))
     insert_adds_up old new n k charge v s out l a h =
         let i = stored_size old new k charge v s out l h in
-        evictions_add_up new (inserted charge n) out (owed_for_new old new n charge (length out) (charges out) a i.sizes i.charge_fits i.stamps)
+        evictions_add_up new (inserted charge n) out (owed_for_new old new n charge (length out) (charges out) a i.sizes i.charge_fits i.stamps i.few)
 
     step_adds_up : (old new : Cache K V) (n : Counts) (r : Request K V) (p : Reply K V) (out : List (Idle K V)) → IsLawful E old → AddUp old n → Step E old r p out new → AddUp new (counted old r (accepted p out) n)
     step_adds_up old new n (ask.begin k charge) (say.make s) out l a h = make_adds_up old new n k charge s out l a h
@@ -283,21 +352,23 @@ module _ {K V : Type 0} where
     step_adds_up old new n (ask.poll s) (say.make t) out l a h = with_others new n n.hits n.misses n.waits n.refusals (one_more n.makings) n.failures (kept_adds_up old new n a (phase_size old new s untaken making out h.1))
     step_adds_up old new n (ask.poll s) (say.hit t v) out l a h = kept_adds_up old new n a (phase_size old new s (ready v) (ready v) out h.1)
     step_adds_up old new n (ask.ready s v) say.done out l a h = kept_adds_up old new n a (phase_size old new s making (ready v) out h)
+    step_adds_up old new n (ask.ready_with s v charge) say.done out l a h = evictions_add_up new (recharged (held_charge old s) charge n) out (charge_owes old new n s v charge out a h)
+    step_adds_up old new n (ask.ready_with_strictly s v charge) say.done out l a h = evictions_add_up new (recharged (held_charge old s) charge n) out (charge_owes old new n s v charge out a h.0)
     step_adds_up old new n (ask.fail s) say.left out l a h = with_others new n n.hits n.misses n.waits n.refusals n.makings (one_more n.failures) (kept_adds_up old new n a (left_size old new s making untaken out h))
-    step_adds_up old new n (ask.fail s) (say.removed k) out l a h = removal_adds_up new (one_failure n) (held_charge old s) (fail_owes old new n s k out a h)
+    step_adds_up old new n (ask.fail s) (say.removed k) out l a h = removal_adds_up new (one_failure n) (held_charge old s) (fail_owes old new n s k out l a h)
     step_adds_up old new n (ask.get k) (say.hit s v) out l a h = with_others new n (one_more n.hits) n.misses n.waits n.refusals n.makings n.failures (kept_adds_up old new n a (hit_size old new k s v out l h))
     step_adds_up old new n (ask.get k) say.missed out l a h = with_others new n n.hits (one_more n.misses) n.waits n.refusals n.makings n.failures (kept_adds_up old new n a (same_size old new h.1.same))
-    step_adds_up old new n (ask.release s) say.done out l a h = evicting_adds_up old new n out a (release_evicts old new s out h)
-    step_adds_up old new n (ask.release_and_evict s) say.done out l a h = evicting_adds_up old new n out a (released_and_evicted_size old new s out h)
+    step_adds_up old new n (ask.release s) say.done out l a h = evicting_adds_up old new n out l a (release_evicts old new s out h)
+    step_adds_up old new n (ask.release_and_evict s) say.done out l a h = evicting_adds_up old new n out l a (released_and_evicted_size old new s out h)
     step_adds_up old new n (ask.repin s) (say.pinned v) out l a h = kept_adds_up old new n a (repinned_size old new s v out l h)
-    step_adds_up old new n (ask.advice_evict k) say.done out l a h = evicting_adds_up old new n out a (advice_evicts old new k out l h)
-    step_adds_up old new n (ask.invalidate k) say.done out l a h = evicting_adds_up old new n out a (invalidate_evicts old new k out l h)
+    step_adds_up old new n (ask.advice_evict k) say.done out l a h = evicting_adds_up old new n out l a (advice_evicts old new k out l h)
+    step_adds_up old new n (ask.invalidate k) say.done out l a h = evicting_adds_up old new n out l a (invalidate_evicts old new k out l h)
     step_adds_up old new n (ask.insert k charge v) (say.inserted s) out l a h = insert_adds_up old new n k charge v s out l a h
     step_adds_up old new n (ask.insert_strictly k charge v) (say.inserted s) out l a h = insert_adds_up old new n k charge v s out l a h.1
     step_adds_up old new n (ask.read k) (say.read s v) out l a h = with_others new n (one_more n.hits) n.misses n.waits n.refusals n.makings n.failures (kept_adds_up old new n a (renewed_size old new k s v out l h))
     step_adds_up old new n (ask.read k) say.missed out l a h = with_others new n n.hits (one_more n.misses) n.waits n.refusals n.makings n.failures (kept_adds_up old new n a (same_size old new h.1.same))
-    step_adds_up old new n ask.prune say.done out l a h = evicting_adds_up old new n out a (pruned_size old new out h.0 h.1)
-    step_adds_up old new n (ask.set_capacity m) say.done out l a h = evicting_adds_up old new n out a (capacity_evicts old new m out h)
+    step_adds_up old new n ask.prune say.done out l a h = evicting_adds_up old new n out l a (pruned_size old new out h.0 h.1)
+    step_adds_up old new n (ask.set_capacity m) say.done out l a h = evicting_adds_up old new n out l a (capacity_evicts old new m out h)
     step_adds_up old new n ask.total (say.sum m) out l a h = kept_adds_up old new n a (same_size old new h.1.same)
     step_adds_up old new n _ _ out l a h = absurd h
 
@@ -311,7 +382,7 @@ module _ {K V : Type 0} where
     pub owed_for_replaced : (old mid new : Cache K V) (n : Counts) (k : K) (charge s : ℕ) (replaced out : List (Idle K V)) → IsLawful E old → IsLawful E mid → AddUp old n → Step E old (ask.invalidate k) say.done replaced mid → Step E mid (ask.begin k charge) (say.make s) out new → s ≡ mid.next → Owes new (inserted charge (evicted replaced n)) (length out) (charges out)
     owed_for_replaced old mid new n k charge s replaced out l lm a h b is =
         let i = inserts mid new k charge s out lm b is in
-        owed_for_new mid new (evicted replaced n) charge (length out) (charges out) (evicting_adds_up old mid n replaced a (invalidate_evicts old mid k replaced l h)) i.sizes i.charge_fits i.stamps
+        owed_for_new mid new (evicted replaced n) charge (length out) (charges out) (evicting_adds_up old mid n replaced l a (invalidate_evicts old mid k replaced l h)) i.sizes i.charge_fits i.stamps i.few
 
     pub replaced_adds_up : (old mid new : Cache K V) (n : Counts) (k : K) (charge s : ℕ) (replaced out : List (Idle K V)) → IsLawful E old → IsLawful E mid → AddUp old n → Step E old (ask.invalidate k) say.done replaced mid → Step E mid (ask.begin k charge) (say.make s) out new → s ≡ mid.next → AddUp new (evicted out (inserted charge (evicted replaced n)))
     replaced_adds_up old mid new n k charge s replaced out l lm a h b is = evictions_add_up new (inserted charge (evicted replaced n)) out (owed_for_replaced old mid new n k charge s replaced out l lm a h b is)
@@ -401,12 +472,6 @@ module _ {K V : Type 0} where
   repin_counted c s (Err Stale) n = refl
   repin_counted c s (Err Full) n = refl
 
-  pub begin_counted : (c : Cache K V) (k : K) (charge : ℕ) (r : Result (Begun (Arc V Global) × List (Idle K V)) Refusal) (n : Counts) → is_insertion r c.next ≡ false → counted_begin r n ≡ counted c (ask.begin k charge) (outcome_of_begin r) n
-  begin_counted c k charge (Ok (begun.Make s, out)) n not = sym (ap (λ b. cond b (evicted out (inserted charge (one_making (one_miss n)))) (one_making (one_miss n))) not)
-  begin_counted c k charge (Ok (begun.Wait s, out)) n not = refl
-  begin_counted c k charge (Ok (begun.Hit s a, out)) n not = refl
-  begin_counted c k charge (Err e) n not = refl
-
   -- one insertion more can be counted
   pub insertion_fits : (c : Cache K V) (n : Counts) (charge : ℕ) → AddUp c n → charge < 2 ^ 64 → c.next + 1 < 2 ^ 64 → (n.insertions + 1 < 2 ^ 64) × (n.inserted_charge + charge < 2 ^ 128)
   insertion_fits c n charge a fits stamps =
@@ -414,31 +479,29 @@ module _ {K V : Type 0} where
       let v : n.charge_before + n.inserted_charge ≤ c.next * end_of_u64 = a.charge_fits in
       (omega (arith, u, stamps), omega (arith, v, stamps, fits))
 
-  -- a begin that inserts an entry: what it says, and the counts after it
-  pub record Inserted (E : K → K → Bool) (old : Cache K V) (k : K) (charge : ℕ) (r : Result (Begun (Arc V Global) × List (Idle K V)) Refusal) (new : Cache K V) (n : Counts) : Type 0 where
-    pub out : List (Idle K V)
-    pub asked : counted_begin r n ≡ one_making (one_miss n)
-    pub counted_is : counted old (ask.begin k charge) (outcome_of_begin r) n ≡ evicted out (inserted charge (one_making (one_miss n)))
+  -- a begin that inserts an entry: the counts after it, and what they owe before what it evicted is
+  -- counted
+  pub record Inserted (old : Cache K V) (k : K) (charge s : ℕ) (out : List (Idle K V)) (new : Cache K V) (n : Counts) : Type 0 where
+    pub counted_is : counted old (ask.begin k charge) (accepted (say.make s) out) n ≡ evicted out (inserted charge (one_making (one_miss n)))
     pub insertions_fit : n.insertions + 1 < 2 ^ 64
     pub charge_fits : n.inserted_charge + charge < 2 ^ 128
     pub owes : Owes new (inserted charge (one_making (one_miss n))) (length out) (charges out)
 
-  pub begin_inserted : (E : K → K → Bool) (old new : Cache K V) (k : K) (charge : ℕ) (r : Result (Begun (Arc V Global) × List (Idle K V)) Refusal) (n : Counts) → IsSoundlyCounted E old n → Stands E old (ask.begin k charge) (outcome_of_begin r) new → is_insertion r old.next ≡ true → Inserted E old k charge r new n
-  begin_inserted E old new k charge (Ok (begun.Make s, out)) n sound h is =
-      let i = inserts old new k charge s out sound.lawful h (eqb-true s old.next is) in
+  pub begin_inserted : (E : K → K → Bool) (old new : Cache K V) (k : K) (charge s : ℕ) (out : List (Idle K V)) (n : Counts) → IsSoundlyCounted E old n → Stands E old (ask.begin k charge) (accepted (say.make s) out) new → s ≡ old.next → Inserted old k charge s out new n
+  begin_inserted E old new k charge s out n sound h is =
+      let i = inserts old new k charge s out sound.lawful h is in
       let a = sound.adds_up in
       let fits = insertion_fits old n charge a i.charge_fits i.stamps in
       record {
-        out = out;
-        asked = refl;
-        counted_is = ap (λ b. cond b (evicted out (inserted charge (one_making (one_miss n)))) (one_making (one_miss n))) is;
+        counted_is = ap (λ b. cond b (evicted out (inserted charge (one_making (one_miss n)))) (one_making (one_miss n))) (eq-eqb s old.next is);
         insertions_fit = fits.0;
         charge_fits = fits.1;
-        owes = owed_for_new old new (one_making (one_miss n)) charge (length out) (charges out) (with_others old n n.hits (one_more n.misses) n.waits n.refusals (one_more n.makings) n.failures a) i.sizes i.charge_fits i.stamps;
+        owes = owed_for_new old new (one_making (one_miss n)) charge (length out) (charges out) (with_others old n n.hits (one_more n.misses) n.waits n.refusals (one_more n.makings) n.failures a) i.sizes i.charge_fits i.stamps i.few;
       }
-  begin_inserted E old new k charge (Ok (begun.Wait s, out)) n sound h is = absurd (true≢false (sym is))
-  begin_inserted E old new k charge (Ok (begun.Hit s a, out)) n sound h is = absurd (true≢false (sym is))
-  begin_inserted E old new k charge (Err e) n sound h is = absurd (true≢false (sym is))
+
+  -- a begin that takes over a making inserts nothing
+  pub taken_over_counted : (old : Cache K V) (k : K) (charge s : ℕ) (out : List (Idle K V)) (n : Counts) → (s ≡ old.next → ⊥) → counted old (ask.begin k charge) (accepted (say.make s) out) n ≡ one_making (one_miss n)
+  taken_over_counted old k charge s out n other = ap (λ b. cond b (evicted out (inserted charge (one_making (one_miss n)))) (one_making (one_miss n))) (ne_eqb s old.next other)
 
   -- what is owed may be counted
   pub can_evict : {c : Cache K V} {n m : Counts} {o g entries charge : ℕ} → Owes c n o g → m ≡ n → entries ≡ count_of c → charge ≡ sum_of c → MayEvict m entries charge
@@ -460,20 +523,20 @@ module _ {K V : Type 0} where
       subst (λ x. MayRemove x charge) (sym same) record { entries = omega (arith, e, u, s); charge = omega (arith, f, is_sum); charge_fits = omega (arith, v, s) }
 
   -- where a call evicted these, the code may count them, and counts just these
-  pub can_count : {old new : Cache K V} {n : Counts} {entries charge : ℕ} (out : List (Idle K V)) → AddUp old n → Evicts old out new → entries ≡ count_of new → charge ≡ sum_of new → MayEvict n entries charge
-  can_count {old} {new} {n} out a e is_count is_sum = can_evict (owed old new n (length out) (charges out) a e) refl is_count is_sum
+  pub can_count : {E : K → K → Bool} {old new : Cache K V} {n : Counts} {entries charge : ℕ} (out : List (Idle K V)) → IsSoundlyCounted E old n → Evicts old out new → entries ≡ count_of new → charge ≡ sum_of new → MayEvict n entries charge
+  can_count {E} {old} {new} {n} out sound e is_count is_sum = can_evict (owed old new n (length out) (charges out) sound.adds_up e (few_evicted E old new out sound.lawful e)) refl is_count is_sum
 
-  pub counts_evicted : {old new : Cache K V} {n m : Counts} {seen : LockedCache K V} {strict : Bool} {entries charge : ℕ} (out : List (Idle K V)) → record { cache = old; counts = n; strict = strict } ≡ seen → AddUp old n → Evicts old out new → m ≡ left_evicted n entries charge → entries ≡ count_of new → charge ≡ sum_of new
+  pub counts_evicted : {E : K → K → Bool} {old new : Cache K V} {n m : Counts} {seen : LockedCache K V} {strict : Bool} {entries charge : ℕ} (out : List (Idle K V)) → record { cache = old; counts = n; strict = strict } ≡ seen → IsSoundlyCounted E old n → Evicts old out new → m ≡ left_evicted n entries charge → entries ≡ count_of new → charge ≡ sum_of new
       → m ≡ evicted out seen.counts
-  counts_evicted {old} {new} {n} {m} out is a e told is_count is_sum = subst (λ x. m ≡ evicted out x.counts) is (told_evicted out (owed old new n (length out) (charges out) a e) refl told is_count is_sum)
+  counts_evicted {E} {old} {new} {n} {m} out is sound e told is_count is_sum = subst (λ x. m ≡ evicted out x.counts) is (told_evicted out (owed old new n (length out) (charges out) sound.adds_up e (few_evicted E old new out sound.lawful e)) refl told is_count is_sum)
 
   -- the invariant after a call that evicted these, and after one that evicted nothing
   pub soundly_evicted : {E : K → K → Bool} {old new : Cache K V} {n m : Counts} {entries charge : ℕ} (out : List (Idle K V)) → IsSoundlyCounted E old n → Evicts old out new → IsLawful E new
       → m ≡ left_evicted n entries charge → entries ≡ count_of new → charge ≡ sum_of new → IsSoundlyCounted E new m
-  soundly_evicted {old} {new} {n} {m} out sound e lawful told is_count is_sum = record {
+  soundly_evicted {E} {old} {new} {n} {m} out sound e lawful told is_count is_sum = record {
     lawful = lawful;
-    adds_up = subst (AddUp new) (sym (counts_evicted {seen = record { cache = old; counts = n; strict = false }} out refl sound.adds_up e told is_count is_sum)) (evicting_adds_up old new n out sound.adds_up e);
+    adds_up = subst (AddUp new) (sym (counts_evicted {E = E} {seen = record { cache = old; counts = n; strict = false }} out refl sound e told is_count is_sum)) (evicting_adds_up {E = E} old new n out sound.lawful sound.adds_up e);
   }
 
   pub soundly_kept : {E : K → K → Bool} {old new : Cache K V} {n : Counts} (out : List (Idle K V)) → IsSoundlyCounted E old n → Evicts old out new → IsLawful E new → out ≡ [] → IsSoundlyCounted E new n
-  soundly_kept {old} {new} {n} out sound e lawful none = record { lawful = lawful; adds_up = subst (AddUp new) (evicted_none n out none) (evicting_adds_up old new n out sound.adds_up e) }
+  soundly_kept {E} {old} {new} {n} out sound e lawful none = record { lawful = lawful; adds_up = subst (AddUp new) (evicted_none n out none) (evicting_adds_up {E = E} old new n out sound.lawful sound.adds_up e) }

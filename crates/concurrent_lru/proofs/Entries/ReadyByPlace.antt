@@ -68,7 +68,7 @@ module _ {K V : Type 0} where
     pub at : get t.stamps p ≡ Some r.stamp
     pub «is» : ready_at (cache_of t) r.stamp ≡ Some r
 
-  place_stamp : (t : Entries K V) (p : ℕ) (r : ReadyEntry K V) → ready_in t p ≡ Some r → IsReadyIn t p r
+  pub place_stamp : (t : Entries K V) (p : ℕ) (r : ReadyEntry K V) → ready_in t p ≡ Some r → IsReadyIn t p r
   place_stamp t p r h = elim (get t.stamps p) as (λ o. get t.stamps p ≡ o → option_and_then (ready_at (cache_of t)) o ≡ Some r → IsReadyIn t p r) [
     | None ↦ λ at k. absurd (none-some r k)
     | Some s ↦ λ at k.

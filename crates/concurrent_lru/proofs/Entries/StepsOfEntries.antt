@@ -8,10 +8,10 @@ use Rattle.std.specs.FinMap.{FinMap, get, insert, remove, get-insert, same_map, 
 use Rattle.std.proofs.lemmas.Bool.{true≢false, eqb-true, eq-eqb}
 use Rattle.std.proofs.lemmas.Option.{same_Some}
 use Rattle.concurrent_lru.specs.Cache.{Phase, making, ready, Idle, Held, IsFront, Settles, idle_at}
-use Rattle.concurrent_lru.specs.Steps.{ChangesPhase, held_in_phase, held_detached, Departs, Ends, PinsAgain, Repins, Detaches, IsAbsent, Makes, Joins, Revives, Hits, Leaves, Removes, Rests, Drops, held_by_one, without, with_capacity}
+use Rattle.concurrent_lru.specs.Steps.{ChangesPhase, Charges, held_in_phase, held_with_charge, held_detached, Departs, Ends, PinsAgain, Repins, Detaches, IsAbsent, Makes, Joins, Revives, Hits, Leaves, Removes, Rests, Drops, Invalidates, held_by_one, without, with_capacity}
 use Rattle.concurrent_lru.specs.NodeTable.{Entry}
 use Rattle.concurrent_lru.specs.Representation.{held_entry, as_idle}
-use Rattle.concurrent_lru.specs.Entries.{Entries, cache_with, cache_of, charges_of, new_held, GetsAt, LeadsAt, ContainsHeldAt, Rewrites, RevivesAt, RestsAt, held_with_pins}
+use Rattle.concurrent_lru.specs.Entries.{Entries, cache_with, cache_of, charges_of, new_held, GetsAt, LeadsAt, ContainsHeldAt, EvictsAt, Rewrites, RevivesAt, RestsAt, held_with_pins}
 use Rattle.concurrent_lru.specs.declared.node_table.Node.{Node}
 use Rattle.concurrent_lru.specs.declared.node_table.memory.At.{At}
 use Rattle.concurrent_lru.proofs.Steps.BeginOfAbsent.{as_idle-ready}
@@ -24,7 +24,7 @@ put_over true v w o = refl
 put_over false v w o = refl
 
 -- the second insert under one stamp is the one that counts
-insert_over : {X : Type 0} (m : FinMap nat_cmp X) (s : ℕ) (v w : X) → insert (insert m s v) s w ≡ insert m s w
+pub insert_over : {X : Type 0} (m : FinMap nat_cmp X) (s : ℕ) (v w : X) → insert (insert m s v) s w ≡ insert m s w
 insert_over m s v w = same_map nat_cmp_total nat_cmp-IsAntisymmetric _ _ (λ q.
     get-insert nat_cmp_total (insert m s v) s w q ∙ ap (cond (same q s) (Some w)) (get-insert nat_cmp_total m s v q) ∙ put_over (same q s) v w (get m q) ∙ sym (get-insert nat_cmp_total m s w q))
 
@@ -151,6 +151,24 @@ module _ {K V : Type 0} (E : K → K → Bool) (capacity most next : ℕ) where
           none = refl;
         }
 
+    -- ready_with, once the entry has another charge and its value
+    pub charges : (mid given u : Entries K V) (s : ℕ) (v : V) (charge : ℕ) (out : List (Idle K V)) → get t.stamps p ≡ Some s → e.pins ≢ 0 → e.phase ≡ making → charges_of t + charge < 2 ^ 64 + e.charge
+        → Rewrites (held_with_charge charge) t p mid → Rewrites (held_in_phase (ready v)) mid p given → u.held ≡ given.held → IsFront (charges_of given) capacity given.idle out u.idle
+        → Charges E (cache_with capacity most next t) s v charge out (cache_with capacity most next u)
+    charges mid given u s v charge out at some phase fits w x held front =
+        let stamp : e.stamp ≡ s = stamp_is here s at in
+        let changed : given ≡ record t { held = insert t.held s (held_in_phase (ready v) (held_with_charge charge (held_entry e))) } =
+        rewritten_twice here some w x ∙ (λ j. record t { held = insert t.held (stamp j) (held_in_phase (ready v) (held_with_charge charge (held_entry e))) }) in
+        record {
+          entry = held_entry e;
+          holds = record { at = ap (get t.held) (sym stamp) ∙ here.held some; phase = phase };
+          fits = fits;
+          settles = record {
+            front = subst (λ (m : Entries K V). IsFront (charges_of m) capacity m.idle out u.idle) changed front;
+            others = λ j. record { capacity = capacity; most_pins = most; next = next; idle = u.idle; held = (held ∙ ap (λ m. m.held) changed) j };
+          };
+        }
+
     -- fail and release with other pins left
     pub leaves : (u : Entries K V) (s : ℕ) (a b : Phase V) → get t.stamps p ≡ Some s → 1 < e.pins → e.phase ≡ a → u ≡ record t { held = insert t.held e.stamp (held_in_phase b (held_with_pins (e.pins - 1) (held_entry e))) }
         → Leaves E (cache_with capacity most next t) s a b [] (cache_with capacity most next u)
@@ -250,3 +268,27 @@ module _ {K V : Type 0} (E : K → K → Bool) (capacity most next : ℕ) where
           changed = λ j. record { capacity = capacity; most_pins = most; next = next; idle = cut j; held = held j };
           one = one ∙ ap (λ o. cons_option o []) (as_idle-ready d r.0 r.1);
         }
+
+    drops_at : (u : Entries K V) (k : K) (out : List (Idle K V)) → E e.key k ≡ true → e.pins ≡ 0 → EvictsAt t p out u → Drops E (cache_with capacity most next t) k out (cache_with capacity most next u)
+    drops_at u k out equal none w =
+        let s = seen_ready e (here.idle none).0 in
+        let key : w.entry.key ≡ e.key = ap (λ y. y.key) (same_Some _ _ (sym w.idle ∙ ap (idle_at (cache_of t)) (sym (stamp_is here w.stamp w.at)) ∙ idle_here here s.0 s.1 none)) in
+        record {
+          stamp = w.stamp;
+          entry = w.entry;
+          at = w.idle;
+          same_key = ap (λ y. E y k) key ∙ equal;
+          changed = λ j. record { capacity = capacity; most_pins = most; next = next; idle = w.left j; held = w.held j };
+          one = w.one;
+        }
+
+    -- invalidate on a key that finds the entry
+    pub invalidates : (u : Entries K V) (k : K) (out : List (Idle K V)) → E e.key k ≡ true → (e.pins ≢ 0 → e.detached ≡ false) → (e.pins ≡ 0 → EvictsAt t p out u) → (e.pins ≢ 0 → Rewrites held_detached t p u × (out ≡ []))
+        → Invalidates E (cache_with capacity most next t) k out (cache_with capacity most next u)
+    invalidates u k out equal found evicted detached = elim (e.pins == 0) as (λ b. (e.pins == 0) ≡ b → Invalidates E (cache_with capacity most next t) k out (cache_with capacity most next u)) [
+      | true ↦ λ b. let none = eqb-true e.pins 0 b in inl (drops_at u k out equal none (evicted none))
+      | false ↦ λ b.
+          let some : e.pins ≢ 0 = λ none. true≢false (sym (eq-eqb e.pins 0 none) ∙ b) in
+          let d = detached some in
+          inr (inl (subst (λ o. Detaches E (cache_with capacity most next t) k o (cache_with capacity most next u)) (sym d.1) (detaches u k (found some) equal some d.0)))
+    ] refl

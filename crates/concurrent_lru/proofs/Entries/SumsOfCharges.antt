@@ -83,12 +83,15 @@ module _ {K V : Type 0} where
       let c : held_charges (remove t.held s) + h.charge ≡ held_charges t.held = sum-remove (λ e. e.charge) t.held s h at in
       omega (arith, a, b, c)
 
-  pub sum_written : (t u : Entries K V) (s : ℕ) (h g : Held K V) → u.idle ≡ t.idle → u.held ≡ insert t.held s g → get t.held s ≡ Some h → g.charge ≡ h.charge → charges_of u ≡ charges_of t
-  sum_written t u s h g i k at same =
+  pub sum_changed : (t u : Entries K V) (s : ℕ) (h g : Held K V) → u.idle ≡ t.idle → u.held ≡ insert t.held s g → get t.held s ≡ Some h → charges_of u + h.charge ≡ charges_of t + g.charge
+  sum_changed t u s h g i k at =
       let a : charges u.idle ≡ charges t.idle = ap charges i in
       let b : held_charges u.held ≡ held_charges (insert t.held s g) = ap held_charges k in
       let c : held_charges (insert t.held s g) + h.charge ≡ held_charges t.held + g.charge = sum-change (λ e. e.charge) t.held s h g at in
-      omega (arith, a, b, c, same)
+      omega (arith, a, b, c)
+
+  pub sum_written : (t u : Entries K V) (s : ℕ) (h g : Held K V) → u.idle ≡ t.idle → u.held ≡ insert t.held s g → get t.held s ≡ Some h → g.charge ≡ h.charge → charges_of u ≡ charges_of t
+  sum_written t u s h g i k at same = let a = sum_changed t u s h g i k at in omega (arith, a, same)
 
   pub sum_evicted : (t u : Entries K V) (s : ℕ) (x : Idle K V) → IsDistinct eqb (map (λ y. y.stamp) t.idle) → u.idle ≡ without s t.idle → u.held ≡ t.held → find (λ z. z.stamp == s) t.idle ≡ Some x → charges_of u + x.charge ≡ charges_of t
   sum_evicted t u s x apart i k at =

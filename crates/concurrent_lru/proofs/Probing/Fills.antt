@@ -3,15 +3,9 @@ use Rattle.std.proofs.Common.{◌≡◌, ◌≢◌, ℕ, ◌<◌, ◌≤◌, Lis
 use Rattle.std.proofs.lemmas.Bool.{cases_eq, cases_lt}
 use Rattle.std.proofs.lemmas.List.{length-set, get_or-set_same, get_or-set_other}
 use Rattle.concurrent_lru.specs.Probing.Cycle.{steps, home_of}
-use Rattle.concurrent_lru.specs.Probing.Probes.{mark_at, IsEmptyAt, IsFilledAt, HasEmpty, end_at, IsReachedIn, IsReached}
+use Rattle.concurrent_lru.specs.Probing.Probes.{mark_at, IsEmptyAt, IsFilledAt, HasEmpty, Ends, end_at, IsReachedIn, IsReached}
 use Rattle.concurrent_lru.proofs.Probing.Circle.{home_within, steps_same}
 use Rattle.concurrent_lru.proofs.Probing.Runs.{is_end}
-
--- the empty bucket at which the search for a mark ends
-pub record Ends (ms : List ℕ) (mark at : ℕ) : Type 0 where
-  pub within : at < length ms
-  pub is_empty : IsEmptyAt ms at
-  pub before : (m : ℕ) → m < length ms → steps (length ms) (home_of (length ms) mark) m < steps (length ms) (home_of (length ms) mark) at → IsFilledAt ms m
 
 pub ends_at : (ms : List ℕ) (mark at : ℕ) → HasEmpty ms → at ≡ end_at ms (home_of (length ms) mark) → Ends ms mark at
 ends_at ms mark at some is =

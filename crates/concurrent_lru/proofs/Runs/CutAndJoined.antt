@@ -56,6 +56,7 @@ module _ {K V M S : Type 0} (seen : S → V) where
   step_writes old new (answer.Polled b) h = outcome_writes old new (outcome_of_by seen {M = M} (answer.Polled b)) h
   step_writes old new answer.Done h = outcome_writes old new (outcome_of_by seen {M = M} answer.Done) h
   step_writes old new (answer.Back a) h = outcome_writes old new (outcome_of_by seen {M = M} (answer.Back a)) h
+  step_writes old new (answer.NotReady e a) h = outcome_writes old new (outcome_of_by seen {M = M} (answer.NotReady e a)) h
   step_writes old new (answer.Failed f) h = outcome_writes old new (outcome_of_by seen {M = M} (answer.Failed f)) h
   step_writes old new (answer.Got found) h = outcome_writes old new (outcome_of_by seen {M = M} (answer.Got found)) h
   step_writes old new (answer.Released out) h = outcome_writes old new (outcome_of_by seen {M = M} (answer.Released out)) h

@@ -8,7 +8,7 @@ use Rattle.std.proofs.lemmas.Bool.{eqb-true, eq-eqb, ne_eqb, cases_lt}
 use Rattle.std.proofs.lemmas.Option.{none-some, same_Some}
 use Rattle.std.proofs.lemmas.List.Sums.{sum_by-append, sum_by-cons}
 use Rattle.concurrent_lru.specs.Cache.{Cache, Idle, Held, making, untaken, ready, Settles, held_at}
-use Rattle.concurrent_lru.specs.Steps.{Step, Makes, Removes, Rests, Stays, Drops, Hits, Releases, ReleasesAndEvicts, Repins, Invalidates, Stores, Renews, without, held_in_phase, one_more_pin, one_pin_less, held_by_one, idle_again, Departs, held_detached}
+use Rattle.concurrent_lru.specs.Steps.{Step, Charges, Makes, Removes, Rests, Stays, Drops, Hits, Releases, ReleasesAndEvicts, Repins, Invalidates, Stores, Renews, with_held, without, held_in_phase, one_more_pin, one_pin_less, held_by_one, idle_again, Departs, held_detached}
 use Rattle.concurrent_lru.specs.Request as ask
 use Rattle.concurrent_lru.specs.Request.{Request}
 use Rattle.concurrent_lru.specs.Reply as say
@@ -17,6 +17,7 @@ use Rattle.concurrent_lru.specs.Runs.{Outcome, accepted, refused, Run}
 use Rattle.concurrent_lru.specs.StampCounts.{one_if, one_if_some, stamp_count_in_list, stamp_count_in_cache, stamp_count_in_outcome, stamp_count}
 use Rattle.concurrent_lru.proofs.Entries.NodesOfSetAndAdd.{inserted_at, inserted_other}
 use Rattle.concurrent_lru.proofs.Lists.Removals.{removed_other}
+use Rattle.concurrent_lru.proofs.Steps.ChargeOfMaking.{given}
 use Rattle.concurrent_lru.proofs.Steps.LawfulAfterLeaving.{ends_departs}
 
 module _ {K V : Type 0} where
@@ -354,6 +355,18 @@ module _ {K V : Type 0} (E : K → K → Bool) where
             omega (arith, x, y, z, r),
       )
 
+  charges_moves : (old new : Cache K V) (s : ℕ) (v : V) (c : ℕ) (out : List (Idle K V)) → Charges E old s v c out new → (new.next ≡ old.next) × ((q : ℕ) → stamp_count_in_list q out + stamp_count_in_cache new q ≡ stamp_count_in_cache old q)
+  charges_moves old new s v c out h =
+      let mid = with_held old s (given v c h.entry) in
+      let a = same_stamp_count old mid s h.entry (given v c h.entry) [] h.holds.at refl refl in (
+        ap (λ z. z.next) h.settles.others,
+        λ q.
+            let x : stamp_count_in_list {K = K} {V = V} q [] + stamp_count_in_cache mid q ≡ stamp_count_in_cache old q = a.1 q in
+            let y : stamp_count_in_list q out + stamp_count_in_cache new q ≡ stamp_count_in_cache mid q = settled_stamp_count mid new out q h.settles in
+            let r : stamp_count_in_list {K = K} {V = V} q [] ≡ 0 = refl in
+            omega (arith, x, y, r),
+      )
+
   pub step_moves : (old new : Cache K V) (r : Request K V) (y : Reply K V) (out : List (Idle K V)) → IsStamped old → Step E old r y out new → Moves old (r, accepted y out) new
   step_moves old new (ask.begin k c) (say.make s) out i h = elim h [
     | inl m ↦ inr (makes_moves old new k c s out i m)
@@ -371,6 +384,8 @@ module _ {K V : Type 0} (E : K → K → Bool) where
   step_moves old new (ask.poll s) (say.make t) out i h = inl (same_stamp_count old new s h.1.entry (held_in_phase making h.1.entry) out h.1.holds.at h.1.changed h.1.none)
   step_moves old new (ask.poll s) (say.hit t v) out i h = inl (same_stamp_count old new s h.1.entry (held_in_phase (ready v) h.1.entry) out h.1.holds.at h.1.changed h.1.none)
   step_moves old new (ask.ready s v) say.done out i h = inl (same_stamp_count old new s h.entry (held_in_phase (ready v) h.entry) out h.holds.at h.changed h.none)
+  step_moves old new (ask.ready_with s v c) say.done out i h = inl (charges_moves old new s v c out h)
+  step_moves old new (ask.ready_with_strictly s v c) say.done out i h = inl (charges_moves old new s v c out h.0)
   step_moves old new (ask.fail s) say.left out i h = inl (same_stamp_count old new s h.entry (held_in_phase untaken (one_pin_less h.entry)) out h.holds.at h.changed h.none)
   step_moves old new (ask.fail s) (say.removed k) out i h = inl (removes_moves old new s k out h)
   step_moves old new (ask.get k) (say.hit s v) out i h = inl (hits_moves old new k s v out i h)

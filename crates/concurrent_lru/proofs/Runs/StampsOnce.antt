@@ -130,6 +130,8 @@ module _ {K V : Type 0} (E : K → K → Bool) where
   step_given old mid (ask.poll s) (say.make u) out es n i h t = subst (Told es n) (ap (λ z. z.next) h.1.changed) t
   step_given old mid (ask.poll s) (say.hit u v) out es n i h t = subst (Told es n) (ap (λ z. z.next) h.1.changed) t
   step_given old mid (ask.ready s v) say.done out es n i h t = subst (Told es n) (ap (λ z. z.next) h.changed) t
+  step_given old mid (ask.ready_with s v c) say.done out es n i h t = subst (Told es n) (ap (λ z. z.next) h.settles.others) t
+  step_given old mid (ask.ready_with_strictly s v c) say.done out es n i h t = subst (Told es n) (ap (λ z. z.next) h.0.settles.others) t
   step_given old mid (ask.fail s) say.left out es n i h t = subst (Told es n) (ap (λ z. z.next) h.changed) t
   step_given old mid (ask.fail s) (say.removed k) out es n i h t = subst (Told es n) (ap (λ z. z.next) h.changed) t
   step_given old mid (ask.get k) (say.hit s v) out es n i h t = subst (Told es n) (hits_next old mid k s v out h) t

@@ -4,7 +4,7 @@ use Rattle.concurrent_lru.specs.Cache.{Cache, Idle, Phase, making, untaken, read
 use Rattle.concurrent_lru.specs.Request as ask
 use Rattle.concurrent_lru.specs.Reply as say
 use Rattle.concurrent_lru.specs.Reply.{Reply}
-use Rattle.concurrent_lru.specs.Steps.{with_capacity, Makes, Joins, Revives, Hits, ChangesPhase, Leaves, Removes, Stays, Drops, IsUnready, IsNotIdle, Releases, ReleasesAndEvicts, Repins, Invalidates, Stores, Renews, Step}
+use Rattle.concurrent_lru.specs.Steps.{with_capacity, Makes, Joins, Revives, Hits, ChangesPhase, Charges, Leaves, Removes, Stays, Drops, IsUnready, IsNotIdle, Releases, ReleasesAndEvicts, Repins, Invalidates, Stores, Renews, Step}
 
 module _ {K V : Type 0} where
   -- what begin and poll reply at a held entry in a phase
@@ -31,7 +31,7 @@ module _ {K V : Type 0} (E : K → K → Bool) (old : Cache K V) where
   begin_cases k charge (say.hit s v) out new (inr h) = inr (inr (s, v, refl, h))
   begin_cases k charge p out new h = absurd h
 
-  -- a strict begin or insert does what one that is not strict does
+  -- a strict begin, insert or ready_with does what one that is not strict does
   pub loose_begin : (k : K) (charge : ℕ) (p : Reply K V) (out : List (Idle K V)) (new : Cache K V) → Step E old (ask.begin_strictly k charge) p out new → Step E old (ask.begin k charge) p out new
   loose_begin k charge (say.make s) out new (inl h) = inl h.1
   loose_begin k charge (say.make s) out new (inr h) = inr h
@@ -43,6 +43,10 @@ module _ {K V : Type 0} (E : K → K → Bool) (old : Cache K V) where
   loose_insert k charge v (say.inserted s) out new h = h
   loose_insert k charge v p out new h = absurd h
 
+  pub loose_ready : (s : ℕ) (v : V) (charge : ℕ) (p : Reply K V) (out : List (Idle K V)) (new : Cache K V) → Step E old (ask.ready_with_strictly s v charge) p out new → Step E old (ask.ready_with s v charge) p out new
+  loose_ready s v charge say.done out new h = h.0
+  loose_ready s v charge p out new h = absurd h
+
   pub poll_cases : (s : ℕ) (p : Reply K V) (out : List (Idle K V)) (new : Cache K V) → Step E old (ask.poll s) p out new → (q : Phase V) × (p ≡ reply_in_phase q s) × ChangesPhase E old s q (phase_after_asking q) out new
   poll_cases s (say.make t) out new h = (untaken, λ i. say.make (h.0 i), h.1)
   poll_cases s (say.wait t) out new h = (making, λ i. say.wait (h.0 i), h.1)
@@ -52,6 +56,10 @@ module _ {K V : Type 0} (E : K → K → Bool) (old : Cache K V) where
   pub ready_cases : (s : ℕ) (v : V) (p : Reply K V) (out : List (Idle K V)) (new : Cache K V) → Step E old (ask.ready s v) p out new → (p ≡ say.done) × ChangesPhase E old s making (ready v) out new
   ready_cases s v say.done out new h = (refl, h)
   ready_cases s v p out new h = absurd h
+
+  pub ready_with_cases : (s : ℕ) (v : V) (charge : ℕ) (p : Reply K V) (out : List (Idle K V)) (new : Cache K V) → Step E old (ask.ready_with s v charge) p out new → (p ≡ say.done) × Charges E old s v charge out new
+  ready_with_cases s v charge say.done out new h = (refl, h)
+  ready_with_cases s v charge p out new h = absurd h
 
   pub fail_cases : (s : ℕ) (p : Reply K V) (out : List (Idle K V)) (new : Cache K V) → Step E old (ask.fail s) p out new
       → ((p ≡ say.left) × Leaves E old s making untaken out new) ⊎ ((k : K) × (p ≡ say.removed k) × Removes E old s k out new)

@@ -1,5 +1,5 @@
 -- What every cache keeps is kept by the changes that steps make.
-use Rattle.std.proofs.Common.{◌≡◌, ℕ, ◌+◌, ◌<◌, ◌≤◌, ◌^◌, inl, inr, Bool, true, false, cond, List, [], ◌∷◌, ◌++◌, map, Some, None, refl, sym, ap, ◌∙◌, subst, arith, eqb, ◌==◌}
+use Rattle.std.proofs.Common.{◌≡◌, ℕ, ◌+◌, ◌<◌, ◌≤◌, ◌^◌, ◌⊎◌, inl, inr, Bool, true, false, cond, List, [], ◌∷◌, ◌++◌, map, Some, None, refl, sym, ap, ◌∙◌, subst, arith, eqb, ◌==◌}
 use Rattle.std.specs.List.{find, IsDistinct, AllByRecursion}
 use Rattle.std.specs.Cmp.{nat_eq_equiv}
 use Rattle.std.specs.FinMap as finmap
@@ -47,34 +47,47 @@ module _ {K V : Type 0} where
     pinned = pins;
   }
 
-  -- a held entry is written, and keeps its key and charge; it is not found where it was not
-  pub orderly-with_held : (E : K → K → Bool) (c : Cache K V) (s : ℕ) (e f : Held K V) → IsOrderly E c → held_at c s ≡ Some e → f.key ≡ e.key → f.charge ≡ e.charge → (f.detached ≡ false → e.detached ≡ false) → 0 < f.pins → f.pins ≤ c.most_pins → IsOrderly E (with_held c s f)
-  orderly-with_held E c s e f o at key charge found low high = orderly_fewer E c (with_held c s f) o
-      (λ t k m a. elim a [
-        | inl i ↦ inl i
-        | inr h ↦ elim (inserted_cases c.held s t f h.0 h.1) [
-          | inl w ↦ inr (e, ap (finmap.get c.held) w.0 ∙ at, sym (ap (λ x. x.key) w.1 ∙ key) ∙ h.2, sym (ap (λ x. x.charge) w.1 ∙ charge) ∙ h.3)
-          | inr was ↦ inr (h.0, was, h.2, h.3)
-        ]
-      ])
-      (λ t k m a. elim a [
-        | inl i ↦ inl i
-        | inr h ↦ elim (inserted_cases c.held s t f h.0 h.1) [
-          | inl w ↦ inr (e, ap (finmap.get c.held) w.0 ∙ at, sym (ap (λ x. x.key) w.1 ∙ key) ∙ h.2, sym (ap (λ x. x.charge) w.1 ∙ charge) ∙ h.3, found (sym (ap (λ x. x.detached) w.1) ∙ h.4))
-          | inr was ↦ inr (h.0, was, h.2, h.3, h.4)
-        ]
-      ])
-      refl o.idle_apart
-      (λ t x i. elim (eqb t s) as (λ b. eqb t s ≡ b → held_at (with_held c s f) t ≡ None) [
-        | true ↦ λ b. absurd (none-some e (sym (o.held_apart t x i) ∙ ap (finmap.get c.held) (eqb-true t s b) ∙ at))
-        | false ↦ λ b. inserted_other c.held s t f b ∙ o.held_apart t x i
-      ] refl)
-      (λ t x h. elim (inserted_cases c.held s t f x h) [
-        | inl w ↦ subst (λ y. (0 < y.pins) × (y.pins ≤ c.most_pins)) (sym w.1) (low, high)
-        | inr was ↦ o.pinned t x was
-      ])
+  -- a held entry is written, and keeps its key: what is there then was there, with some charge
+  entry_before : (c : Cache K V) (s : ℕ) (e f : Held K V) → held_at c s ≡ Some e → f.key ≡ e.key → (t : ℕ) (k : K) (m : ℕ) → IsEntry (with_held c s f) t k m → (n : ℕ) × IsEntry c t k n × ((n ≡ m) ⊎ (f.charge ≡ m))
+  entry_before c s e f at key t k m (inl i) = (m, inl i, inl refl)
+  entry_before c s e f at key t k m (inr h) = elim (inserted_cases c.held s t f h.0 h.1) [
+    | inl w ↦ (e.charge, inr (e, ap (finmap.get c.held) w.0 ∙ at, sym (ap (λ x. x.key) w.1 ∙ key) ∙ h.2, refl), inr (sym (ap (λ x. x.charge) w.1) ∙ h.3))
+    | inr was ↦ (m, inr (h.0, was, h.2, h.3), inl refl)
+  ]
 
-  -- and so is the sum
+  found_before : (c : Cache K V) (s : ℕ) (e f : Held K V) → held_at c s ≡ Some e → f.key ≡ e.key → (f.detached ≡ false → e.detached ≡ false) → (t : ℕ) (k : K) (m : ℕ) → IsFound (with_held c s f) t k m → (n : ℕ) × IsFound c t k n
+  found_before c s e f at key found t k m (inl i) = (m, inl i)
+  found_before c s e f at key found t k m (inr h) = elim (inserted_cases c.held s t f h.0 h.1) [
+    | inl w ↦ (e.charge, inr (e, ap (finmap.get c.held) w.0 ∙ at, sym (ap (λ x. x.key) w.1 ∙ key) ∙ h.2, refl, found (sym (ap (λ x. x.detached) w.1) ∙ h.4)))
+    | inr was ↦ (m, inr (h.0, was, h.2, h.3, h.4))
+  ]
+
+  -- it has a charge, and is not found where it was not
+  pub orderly-with_held : (E : K → K → Bool) (c : Cache K V) (s : ℕ) (e f : Held K V) → IsOrderly E c → held_at c s ≡ Some e → f.key ≡ e.key → 0 < f.charge → (f.detached ≡ false → e.detached ≡ false) → 0 < f.pins → f.pins ≤ c.most_pins → IsOrderly E (with_held c s f)
+  orderly-with_held E c s e f o at key some found low high = record {
+    one_entry = λ t u k l m n a b q.
+        let x = found_before c s e f at key found t k m a in
+        let y = found_before c s e f at key found u l n b in
+        o.one_entry t u k l x.0 y.0 x.1 y.1 q;
+    idle_apart = o.idle_apart;
+    held_apart = λ t x i. elim (eqb t s) as (λ b. eqb t s ≡ b → held_at (with_held c s f) t ≡ None) [
+      | true ↦ λ b. absurd (none-some e (sym (o.held_apart t x i) ∙ ap (finmap.get c.held) (eqb-true t s b) ∙ at))
+      | false ↦ λ b. inserted_other c.held s t f b ∙ o.held_apart t x i
+    ] refl;
+    below_next = λ t k m a. let x = entry_before c s e f at key t k m a in o.below_next t k x.0 x.1;
+    charged = λ t k m a.
+        let x = entry_before c s e f at key t k m a in
+        elim x.2 [
+          | inl same ↦ subst (λ n. 0 < n) same (o.charged t k x.0 x.1)
+          | inr new ↦ subst (λ n. 0 < n) new some
+        ];
+    pinned = λ t x h. elim (inserted_cases c.held s t f x h) [
+      | inl w ↦ subst (λ y. (0 < y.pins) × (y.pins ≤ c.most_pins)) (sym w.1) (low, high)
+      | inr was ↦ o.pinned t x was
+    ];
+  }
+
+  -- where it keeps its charge, the sum is the same
   pub sum-with_held : (c : Cache K V) (s : ℕ) (e f : Held K V) → held_at c s ≡ Some e → f.charge ≡ e.charge → sum_of (with_held c s f) ≡ sum_of c
   sum-with_held c s e f at charge =
       let a : held_charges (finmap.insert c.held s f) + e.charge ≡ held_charges c.held + f.charge = sum-change (λ x. x.charge) c.held s e f at in
@@ -83,7 +96,8 @@ module _ {K V : Type 0} where
   pub lawful-with_held : (E : K → K → Bool) (c : Cache K V) (s : ℕ) (e f : Held K V) → IsLawful E c → held_at c s ≡ Some e → f.key ≡ e.key → f.charge ≡ e.charge → (f.detached ≡ false → e.detached ≡ false) → 0 < f.pins → f.pins ≤ c.most_pins → IsLawful E (with_held c s f)
   lawful-with_held E c s e f l at key charge found low high =
       let sum : sum_of (with_held c s f) ≡ sum_of c = sum-with_held c s e f at charge in
-      lawful_from (orderly-with_held E c s e f (orderly l) at key charge found low high) (subst (λ n. n < 2 ^ 64) (sym sum) l.sum_fits) (λ more. l.settled (subst (λ n. c.capacity < n) sum more))
+      let some = subst (λ n. 0 < n) (sym charge) (l.charged s e.key e.charge (inr (e, at, refl, refl))) in
+      lawful_from (orderly-with_held E c s e f (orderly l) at key some found low high) (subst (λ n. n < 2 ^ 64) (sym sum) l.sum_fits) (λ more. l.settled (subst (λ n. c.capacity < n) sum more))
 
   -- where something is found in the rest of a list of distinct stamps, it is found in the whole
   pub find_rest : (s : ℕ) (x : Idle K V) (a b : List (Idle K V)) → IsDistinct eqb (map (λ y. y.stamp) (a ++ b)) → find (λ y. y.stamp == s) b ≡ Some x → find (λ y. y.stamp == s) (a ++ b) ≡ Some x

@@ -10,13 +10,14 @@ use Rattle.concurrent_lru.specs.Request as ask
 use Rattle.concurrent_lru.specs.Request.{Request}
 use Rattle.concurrent_lru.specs.Reply as say
 use Rattle.concurrent_lru.specs.Reply.{Reply}
-use Rattle.concurrent_lru.specs.Steps.{with_held, with_capacity, without_held, without, held_in_phase, held_detached, one_more_pin, one_pin_less, held_by_one, idle_again, Makes, Joins, Revives, Hits, ChangesPhase, Leaves, Removes, Rests, Stays, Drops, Ends, Departs, PinsAgain, Detaches, IsAbsent, IsUnready, IsNotIdle, Releases, ReleasesAndEvicts, Repins, Invalidates, Step}
+use Rattle.concurrent_lru.specs.Steps.{with_held, with_capacity, without_held, without, held_in_phase, held_detached, one_more_pin, one_pin_less, held_by_one, idle_again, Makes, Joins, Revives, Hits, ChangesPhase, Charges, Leaves, Removes, Rests, Stays, Drops, Ends, Departs, PinsAgain, Detaches, IsAbsent, IsUnready, IsNotIdle, Releases, ReleasesAndEvicts, Repins, Invalidates, Step}
 use Rattle.concurrent_lru.specs.StepLaws.{AreAlike, IsAlike, LeadsToOne, OneAnswer}
 use Rattle.concurrent_lru.proofs.Steps.BeginOfAbsent.{with_new_entry, sum-made}
+use Rattle.concurrent_lru.proofs.Steps.ChargeOfMaking.{given}
 use Rattle.concurrent_lru.proofs.Lists.DistinctEntries.{same}
 use Rattle.concurrent_lru.proofs.Steps.OneFront.{one_front}
 use Rattle.concurrent_lru.proofs.Steps.LawfulAfterChange.{orderly}
-use Rattle.concurrent_lru.proofs.Steps.CasesOfSteps.{reply_in_phase, phase_after_asking, loose_begin, loose_insert, begin_cases, poll_cases, ready_cases, fail_cases, get_cases, release_cases, release_and_evict_cases, repin_cases, advice_evict_cases, invalidate_cases, insert_cases, read_cases, prune_cases, set_capacity_cases, total_cases}
+use Rattle.concurrent_lru.proofs.Steps.CasesOfSteps.{reply_in_phase, phase_after_asking, loose_begin, loose_insert, loose_ready, begin_cases, poll_cases, ready_cases, ready_with_cases, fail_cases, get_cases, release_cases, release_and_evict_cases, repin_cases, advice_evict_cases, invalidate_cases, insert_cases, read_cases, prune_cases, set_capacity_cases, total_cases}
 use Rattle.concurrent_lru.proofs.Steps.StaysLawful.{invalidates_lawful}
 
 pub same_value : {V : Type 0} (v w : V) → ready v ≡ ready w → v ≡ w
@@ -50,6 +51,11 @@ module _ {K V : Type 0} (E : K → K → Bool) where
   readies_once old s v out away new other a b =
       let e = same_entry old s a.entry b.entry a.holds.at b.holds.at in
       (a.none ∙ sym b.none, a.changed ∙ ap (λ x. with_held old s (held_in_phase (ready v) x)) e ∙ sym b.changed)
+
+  charges_once : (old : Cache K V) (s : ℕ) (v : V) (charge : ℕ) (out away : List (Idle K V)) (new other : Cache K V) → Charges E old s v charge out new → Charges E old s v charge away other → (out ≡ away) × (new ≡ other)
+  charges_once old s v charge out away new other a b =
+      let e = same_entry old s a.entry b.entry a.holds.at b.holds.at in
+      settles_once (with_held old s (given v charge b.entry)) out away new other (subst (λ x. Settles (with_held old s (given v charge x)) out new) e a.settles) b.settles
 
   leaves_once : (old : Cache K V) (s : ℕ) (p q : Phase V) (out away : List (Idle K V)) (new other : Cache K V) → Leaves E old s p q out new → Leaves E old s p q away other → (out ≡ away) × (new ≡ other)
   leaves_once old s p q out away new other a b =
@@ -358,6 +364,16 @@ module _ {K V : Type 0} (E : K → K → Bool) where
         let a = ready_cases E old s v p out new g in
         let b = ready_cases E old s v q away other h in
         let j = readies_once old s v out away new other a.1 b.1 in
+        (a.0 ∙ sym b.0, j.0, j.1)
+    one_step new other (ask.ready_with s v c) p q out away g h =
+        let a = ready_with_cases E old s v c p out new g in
+        let b = ready_with_cases E old s v c q away other h in
+        let j = charges_once old s v c out away new other a.1 b.1 in
+        (a.0 ∙ sym b.0, j.0, j.1)
+    one_step new other (ask.ready_with_strictly s v c) p q out away g h =
+        let a = ready_with_cases E old s v c p out new (loose_ready E old s v c p out new g) in
+        let b = ready_with_cases E old s v c q away other (loose_ready E old s v c q away other h) in
+        let j = charges_once old s v c out away new other a.1 b.1 in
         (a.0 ∙ sym b.0, j.0, j.1)
     one_step new other (ask.fail s) p q out away g h = one_fail laws old l s p q out away new other g h
     one_step new other (ask.get k) p q out away g h = one_get laws old l k p q out away new other g h

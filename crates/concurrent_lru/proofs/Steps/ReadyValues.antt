@@ -16,7 +16,7 @@ use Rattle.concurrent_lru.specs.Reply as say
 use Rattle.concurrent_lru.specs.Request as ask
 use Rattle.concurrent_lru.specs.Results.{outcome_of_begin, outcome_of_poll, outcome_of_ready, outcome_of_get, outcome_of_release, outcome_of_repin, begun_without_hint, found_without_hint}
 use Rattle.concurrent_lru.specs.Runs.{Outcome, accepted, refused, Refuses, Stands}
-use Rattle.concurrent_lru.specs.Steps.{with_capacity, with_held, without_held, without, one_more_pin, one_pin_less, held_in_phase, held_by_one, idle_again, Makes, Joins, Revives, Hits, ChangesPhase, Leaves, Removes, Rests, Drops, ReleasesAndEvicts, Repins, held_detached}
+use Rattle.concurrent_lru.specs.Steps.{with_capacity, with_held, without_held, without, one_more_pin, one_pin_less, held_in_phase, held_by_one, idle_again, Makes, Joins, Revives, Hits, ChangesPhase, Charges, Leaves, Removes, Rests, Drops, ReleasesAndEvicts, Repins, InvalidatesAt, held_detached}
 use Rattle.concurrent_lru.specs.ThreadedCalls.{IfHit}
 use Rattle.concurrent_lru.specs.declared.refusal.Refusal.{Refusal}
 use Rattle.concurrent_lru.specs.declared.refusal.Refusal.TheVariants.{Stale}
@@ -25,6 +25,7 @@ use Rattle.concurrent_lru.specs.declared.step.Begun.TheVariants as rust
 use Rattle.concurrent_lru.specs.declared.table.spot.Hint.{Hint}
 use Rattle.concurrent_lru.proofs.Entries.NodesOfSetAndAdd.{inserted_cases}
 use Rattle.concurrent_lru.proofs.Lists.Removals.{removed_some}
+use Rattle.concurrent_lru.proofs.Steps.ChargeOfMaking.{given}
 
 module _ {X : Type 0} where
   contains_more : (x y : X) (xs : List X) → Contains xs y → Contains (x ∷ xs) y
@@ -135,6 +136,13 @@ module _ {K V : Type 0} (E : K → K → Bool) where
   changes_phase_one_more : (old new : Cache K V) (s : ℕ) (v : V) (out : List (Idle K V)) → ChangesPhase E old s making (ready v) out new → OneMoreReady old s v new
   changes_phase_one_more old new s v out t key w h =
       elim (one_written old s (held_in_phase (ready v) t.entry) key w (subst (λ c. HasReady c key w) t.changed h)) [
+        | inl was ↦ inl was
+        | inr is ↦ inr (sym (same_ready v w is.1), (t.entry.charge, inr (t.entry, t.holds.at, is.0, refl)))
+      ]
+
+  charges_one_more : (old new : Cache K V) (s : ℕ) (v : V) (charge : ℕ) (out : List (Idle K V)) → Charges E old s v charge out new → OneMoreReady old s v new
+  charges_one_more old new s v charge out t key w h =
+      elim (one_written old s (given v charge t.entry) key w (fewer_settled _ new out t.settles key w h)) [
         | inl was ↦ inl was
         | inr is ↦ inr (sym (same_ready v w is.1), (t.entry.charge, inr (t.entry, t.holds.at, is.0, refl)))
       ]
@@ -310,6 +318,10 @@ module _ {K V : Type 0} (E : K → K → Bool) where
     pub invalidate_kept : (old new : Cache K V) (k : K) (out : List (Idle K V)) → Stands E old (ask.invalidate k) (accepted say.done out) new → ValuesFit fits old → ValuesFit fits new
     invalidate_kept old new k out h = kept_fewer old new (invalidate_fewer old new k out h)
 
+    pub invalidate_at_kept : (old new : Cache K V) (s : ℕ) (out : List (Idle K V)) → InvalidatesAt E old s out new → ValuesFit fits old → ValuesFit fits new
+    invalidate_at_kept old new s out (inl h) kept = invalidate_kept old new h.0 out h.3 kept
+    invalidate_at_kept old new s out (inr h) kept = subst (ValuesFit fits) (sym h.1.same) kept
+
     pub prune_kept : (old new : Cache K V) (out : List (Idle K V)) → Stands E old ask.prune (accepted say.done out) new → ValuesFit fits old → ValuesFit fits new
     prune_kept old new out h = kept_fewer old new (prune_fewer old new out h)
 
@@ -325,6 +337,16 @@ module _ {K V : Type 0} (E : K → K → Bool) where
     ]
     ready_kept old new s k v (accepted reply out) eq law lawful at fit h kept = absurd h
     ready_kept old new s k v (refused e) eq law lawful at fit h kept = kept_fewer old new (fewer_same old new h.1) kept
+
+    pub ready_with_kept : (old new : Cache K V) (s : ℕ) (k : K) (v : V) (charge : ℕ) (o : Outcome K V) → IsEquivalence E → EqualKeysFit E fits → IsLawful E old → HasEqualKeyAt E old s k → fits k v → Stands E old (ask.ready_with s v charge) o new → ValuesFit fits old → ValuesFit fits new
+    ready_with_kept old new s k v charge (accepted say.done out) eq law lawful at fit h kept = λ key w r. elim (charges_one_more old new s v charge out h key w r) [
+      | inl was ↦ kept key w was
+      | inr is ↦
+          let own : at.0 ≡ key = one_key old s at.0 key lawful at.1 is.1 in
+          subst (fits key) (sym is.0) (law k key v (ap (E k) (sym own) ∙ eq.symm k at.0 ∙ at.2) fit)
+    ]
+    ready_with_kept old new s k v charge (accepted reply out) eq law lawful at fit h kept = absurd h
+    ready_with_kept old new s k v charge (refused e) eq law lawful at fit h kept = kept_fewer old new (fewer_same old new h.1) kept
 
     -- where it is done only under a stamp whose entry has the key, the values fit whether it is
     -- done or not

@@ -2,18 +2,18 @@
 use Rattle.std.proofs.Common.{◌≡◌, ℕ, ◌+◌, ◌<◌, ◌≤◌, ◌^◌, ◌⊎◌, inl, inr, Bool, true, false, List, [], Some, refl, sym, ap, ◌∙◌, subst, arith}
 use Rattle.std.specs.Cmp.{IsEquivalence}
 use Rattle.std.proofs.lemmas.Option.{none-some}
-use Rattle.concurrent_lru.specs.Cache.{Cache, Idle, Held, IsLawful, ready, held_at, sum_of, HasCapacityFor, LacksCapacityFor}
+use Rattle.concurrent_lru.specs.Cache.{Cache, Idle, Held, IsLawful, making, ready, held_at, sum_of, HasCapacityFor, LacksCapacityFor, HasCapacityToCharge, LacksCapacityToCharge}
 use Rattle.concurrent_lru.specs.Request as ask
 use Rattle.concurrent_lru.specs.Request.{Request}
 use Rattle.concurrent_lru.specs.Reply as say
 use Rattle.concurrent_lru.specs.Reply.{Reply}
-use Rattle.concurrent_lru.specs.Runs.{HasRoomAt, IsFull, WouldHit, Overflows, IsStale, TakesMemory, ExceedsCapacity, Refuses}
-use Rattle.concurrent_lru.specs.Steps.{HasNumbers, Hits, IsUnready, Step}
+use Rattle.concurrent_lru.specs.Runs.{HasRoomAt, IsFull, WouldHit, Overflows, PassesEndWith, IsStale, TakesMemory, ExceedsCapacity, Refuses}
+use Rattle.concurrent_lru.specs.Steps.{Charges, HasNumbers, Hits, Holds, IsUnready, Step}
 use Rattle.concurrent_lru.specs.StepLaws.{LeavesNoStep, OneRefusal}
 use Rattle.concurrent_lru.specs.declared.refusal.Refusal.{Refusal}
 use Rattle.concurrent_lru.specs.declared.refusal.Refusal.TheVariants.{Memory, Overflow, Stale, Full}
 use Rattle.concurrent_lru.proofs.Steps.OneAnswer.{not_ready_too, same_entry, held_once, invalidates_once, not_both, not_held, not_idle}
-use Rattle.concurrent_lru.proofs.Steps.CasesOfSteps.{loose_begin, loose_insert, begin_cases, poll_cases, ready_cases, fail_cases, get_cases, release_cases, release_and_evict_cases, repin_cases, insert_cases, read_cases}
+use Rattle.concurrent_lru.proofs.Steps.CasesOfSteps.{loose_begin, loose_insert, loose_ready, begin_cases, poll_cases, ready_cases, ready_with_cases, fail_cases, get_cases, release_cases, release_and_evict_cases, repin_cases, insert_cases, read_cases}
 
 module _ {K V : Type 0} (E : K → K → Bool) where
   no_numbers : (c : Cache K V) (charge : ℕ) → HasNumbers E c charge → (2 ^ 64 ≤ sum_of c + charge) ⊎ (2 ^ 64 ≤ c.next + 1) → ⊥
@@ -23,6 +23,16 @@ module _ {K V : Type 0} (E : K → K → Bool) where
   -- the capacity has room for a charge, or it does not
   no_capacity : (c : Cache K V) (charge : ℕ) → HasCapacityFor c charge → LacksCapacityFor c charge → ⊥
   no_capacity c charge has lacks = absurd (omega (arith, has, lacks))
+
+  no_capacity_to_charge : (c : Cache K V) (charge : ℕ) (e f : Held K V) → e ≡ f → HasCapacityToCharge c e.charge charge → LacksCapacityToCharge c f.charge charge → ⊥
+  no_capacity_to_charge c charge e f is has lacks = let was : e.charge ≡ f.charge = ap (λ x. x.charge) is in absurd (omega (arith, was, has, lacks))
+
+  -- a making whose charge overflows the sum does not become ready
+  past_end : (c new : Cache K V) (s : ℕ) (v : V) (charge : ℕ) (out : List (Idle K V)) (e : Held K V) → Holds c s e making → PassesEndWith E c charge e.charge → Charges E c s v charge out new → ⊥
+  past_end c new s v charge out e holds past h =
+      let was : e.charge ≡ h.entry.charge = ap (λ x. x.charge) (same_entry E c s e h.entry holds.at h.holds.at) in
+      let fits : sum_of c + charge < 2 ^ 64 + h.entry.charge = h.fits in
+      absurd (omega (arith, was, past, fits))
 
   -- a strict begin or insert overflows, or takes memory, as one that is not strict does
   loose_overflow : (c : Cache K V) (k : K) (charge : ℕ) → Overflows E c (ask.begin_strictly k charge) → Overflows E c (ask.begin k charge)
@@ -41,6 +51,8 @@ module _ {K V : Type 0} (E : K → K → Bool) where
   stale_fits c (ask.insert k charge v) h o = h
   stale_fits c (ask.insert_strictly k charge v) h o = h
   stale_fits c (ask.read k) h o = h
+  stale_fits c (ask.ready_with s v charge) h o = h o.0 o.1
+  stale_fits c (ask.ready_with_strictly s v charge) h o = h o.0 o.1
   stale_fits c (ask.repin s) h o = h.0 o.0 o.1 o.2
   stale_fits c r h o = o
 
@@ -59,6 +71,8 @@ module _ {K V : Type 0} (E : K → K → Bool) where
   stale_stops : (c new : Cache K V) (r : Request K V) (p : Reply K V) (out : List (Idle K V)) → IsStale E c r → Step E c r p out new → ⊥
   stale_stops c new (ask.poll s) p out h g = let a = poll_cases E c s p out new g in none-some a.2.entry (sym h ∙ a.2.holds.at)
   stale_stops c new (ask.ready s v) p out h g = let a = ready_cases E c s v p out new g in h a.1.entry a.1.holds
+  stale_stops c new (ask.ready_with s v charge) p out h g = let a = (ready_with_cases E c s v charge p out new g).1 in h a.entry a.holds
+  stale_stops c new (ask.ready_with_strictly s v charge) p out h g = let a = (ready_with_cases E c s v charge p out new (loose_ready E c s v charge p out new g)).1 in h a.entry a.holds
   stale_stops c new (ask.fail s) p out h g = elim (fail_cases E c s p out new g) [
     | inl a ↦ h a.1.entry a.1.holds
     | inr a ↦ h a.2.entry a.2.holds
@@ -146,6 +160,8 @@ module _ {K V : Type 0} (E : K → K → Bool) where
       | inl a ↦ hit_not_full k a.0 a.1 [] a.3.mid a.3.found h.0
       | inr a ↦ full_is_ready k h a.1
     ]
+    overflow_stops new (ask.ready_with s v charge) p out h g = past_end c new s v charge out h.0 h.1 h.2 (ready_with_cases E c s v charge p out new g).1
+    overflow_stops new (ask.ready_with_strictly s v charge) p out h g = past_end c new s v charge out h.0 h.1 h.2.1 (ready_with_cases E c s v charge p out new (loose_ready E c s v charge p out new g)).1
     overflow_stops new (ask.repin s) p out h g =
         let a = repin_cases E c s p out new g in
         elim a.2 [
@@ -171,6 +187,8 @@ module _ {K V : Type 0} (E : K → K → Bool) where
     overflow_takes_none (ask.insert k charge v) h m = insert_overflow_takes_none k charge v h m
     overflow_takes_none (ask.insert_strictly k charge v) h m = insert_overflow_takes_none k charge v h.1 m.1
     overflow_takes_none (ask.read k) h m = would_hit_not_full k m h.0
+    overflow_takes_none (ask.ready_with s v charge) h m = m
+    overflow_takes_none (ask.ready_with_strictly s v charge) h m = m
     overflow_takes_none (ask.repin s) h m = full_at s h.0 h.2.at h.3 m
     overflow_takes_none r h m = absurd h
 
@@ -183,12 +201,15 @@ module _ {K V : Type 0} (E : K → K → Bool) where
     exceeding_stops new (ask.begin_strictly k charge) (say.hit s v) out h (inr r) = not_idle E laws c l k s r.entry h.1 r.at r.same_key
     exceeding_stops new (ask.begin_strictly k charge) p out h g = absurd g
     exceeding_stops new (ask.insert_strictly k charge v) p out h g = no_capacity c charge (loose_insert E c k charge v p out new g).0 h
+    exceeding_stops new (ask.ready_with_strictly s v charge) say.done out h g = no_capacity_to_charge c charge g.0.entry h.0 (same_entry E c s g.0.entry h.0 g.0.holds.at h.1.at) g.1 h.2
+    exceeding_stops new (ask.ready_with_strictly s v charge) p out h g = absurd g
     exceeding_stops new r p out h g = absurd h
 
     exceeding_fits : (r : Request K V) → ExceedsCapacity E c r → Overflows E c r → ⊥
     exceeding_fits (ask.begin_strictly k charge) h (inl o) = no_capacity c charge o.0 h.0
     exceeding_fits (ask.begin_strictly k charge) h (inr o) = not_held E laws c l k o.stamp o.entry h.1 o.at o.found o.same_key
     exceeding_fits (ask.insert_strictly k charge v) h o = no_capacity c charge o.0 h
+    exceeding_fits (ask.ready_with_strictly s v charge) h o = no_capacity_to_charge c charge o.0 h.0 (same_entry E c s o.0 h.0 o.1.at h.1.at) o.2.0 h.2
     exceeding_fits r h o = absurd h
 
     exceeding_takes_none : (r : Request K V) → ExceedsCapacity E c r → TakesMemory E c r → ⊥
@@ -196,11 +217,13 @@ module _ {K V : Type 0} (E : K → K → Bool) where
     exceeding_takes_none (ask.begin_strictly k charge) h (inr (inl m)) = not_held E laws c l k m.0 m.1 h.1 m.3.at m.6 m.4
     exceeding_takes_none (ask.begin_strictly k charge) h (inr (inr m)) = not_idle E laws c l k m.0 m.1 h.1 m.2 m.3
     exceeding_takes_none (ask.insert_strictly k charge v) h m = no_capacity c charge m.0 h
+    exceeding_takes_none (ask.ready_with_strictly s v charge) h m = m
     exceeding_takes_none r h m = absurd h
 
     exceeding_not_stale : (r : Request K V) → ExceedsCapacity E c r → IsStale E c r → ⊥
     exceeding_not_stale (ask.begin_strictly k charge) h s = s
     exceeding_not_stale (ask.insert_strictly k charge v) h s = s
+    exceeding_not_stale (ask.ready_with_strictly s v charge) h stale = stale h.0 h.1
     exceeding_not_stale r h s = absurd h
 
     one_of : (r : Request K V) (e f : Refusal) → Refuses E c r e → Refuses E c r f → e ≡ f

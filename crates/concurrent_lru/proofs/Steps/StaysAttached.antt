@@ -12,7 +12,8 @@ use Rattle.concurrent_lru.specs.Steps.{held_in_phase, held_by_one, one_more_pin,
 use Rattle.concurrent_lru.specs.StepLaws.{IsAttached, InvalidatesNothing, StaysAttached, OneEntryOfKey}
 use Rattle.concurrent_lru.proofs.Lists.DistinctEntries.{same}
 use Rattle.concurrent_lru.proofs.Lists.Removals.{removed_some}
-use Rattle.concurrent_lru.proofs.Steps.CasesOfSteps.{phase_after_asking, loose_begin, begin_cases, poll_cases, ready_cases, fail_cases, get_cases, release_cases, release_and_evict_cases, repin_cases, advice_evict_cases, read_cases, prune_cases, set_capacity_cases, total_cases}
+use Rattle.concurrent_lru.proofs.Steps.ChargeOfMaking.{given}
+use Rattle.concurrent_lru.proofs.Steps.CasesOfSteps.{phase_after_asking, loose_begin, loose_ready, begin_cases, poll_cases, ready_cases, ready_with_cases, fail_cases, get_cases, release_cases, release_and_evict_cases, repin_cases, advice_evict_cases, read_cases, prune_cases, set_capacity_cases, total_cases}
 
 module _ {K V : Type 0} where
   one_of : (b : Bool) (e f : Held K V) (was : Option (Held K V)) → e.detached ≡ false → ((x : Held K V) → was ≡ Some x → x.detached ≡ false) → cond b (Some e) was ≡ Some f → f.detached ≡ false
@@ -57,6 +58,11 @@ module _ {K V : Type 0} (E : K → K → Bool) (old new : Cache K V) (a : IsAtta
     ]
   ]
 
+  charges_attached : (s : ℕ) (v : V) (charge : ℕ) (p : Reply K V) (out : List (Idle K V)) → Step E old (ask.ready_with s v charge) p out new → IsAttached new
+  charges_attached s v charge p out h =
+      let b = (ready_with_cases E old s v charge p out new h).1 in
+      with_one E old new a s (given v charge b.entry) (a s b.entry b.holds.at) (ap (λ c. c.held) b.settles.others)
+
   step_attached : (r : Request K V) (p : Reply K V) (out : List (Idle K V)) → InvalidatesNothing r → Step E old r p out new → IsAttached new
   step_attached (ask.begin k charge) p out none h = begin_attached k charge p out h
   step_attached (ask.begin_strictly k charge) p out none h = begin_attached k charge p out (loose_begin E old k charge p out new h)
@@ -66,6 +72,8 @@ module _ {K V : Type 0} (E : K → K → Bool) (old new : Cache K V) (a : IsAtta
   step_attached (ask.ready s v) p out none h =
       let b = (ready_cases E old s v p out new h).1 in
       with_one E old new a s (held_in_phase (ready v) b.entry) (a s b.entry b.holds.at) (ap (λ c. c.held) b.changed)
+  step_attached (ask.ready_with s v c) p out none h = charges_attached s v c p out h
+  step_attached (ask.ready_with_strictly s v c) p out none h = charges_attached s v c p out (loose_ready E old s v c p out new h)
   step_attached (ask.fail s) p out none h = elim (fail_cases E old s p out new h) [
     | inl b ↦ with_one E old new a s (held_in_phase untaken (one_pin_less b.1.entry)) (a s b.1.entry b.1.holds.at) (ap (λ c. c.held) b.1.changed)
     | inr b ↦ without_one E old new a s (ap (λ c. c.held) b.2.changed)

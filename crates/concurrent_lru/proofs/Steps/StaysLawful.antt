@@ -15,9 +15,10 @@ use Rattle.concurrent_lru.proofs.Steps.LawfulAfterLeaving.{removes_lawful, ends_
 use Rattle.concurrent_lru.proofs.Steps.BeginOfHeld.{joins_lawful, pins_again_lawful}
 use Rattle.concurrent_lru.proofs.Steps.LawfulAfterChange.{sets_lawful}
 use Rattle.concurrent_lru.proofs.Steps.ReadyAndPoll.{changes_phase_lawful}
+use Rattle.concurrent_lru.proofs.Steps.ChargeOfMaking.{charges_lawful}
 use Rattle.concurrent_lru.proofs.Steps.Release.{rests_lawful, leaves_lawful, detaches_lawful}
 use Rattle.concurrent_lru.proofs.Steps.LawfulAfterRevival.{revives_lawful}
-use Rattle.concurrent_lru.proofs.Steps.CasesOfSteps.{phase_after_asking, loose_begin, loose_insert, begin_cases, poll_cases, ready_cases, fail_cases, get_cases, release_cases, release_and_evict_cases, repin_cases, advice_evict_cases, invalidate_cases, insert_cases, read_cases, prune_cases, set_capacity_cases, total_cases}
+use Rattle.concurrent_lru.proofs.Steps.CasesOfSteps.{phase_after_asking, loose_begin, loose_insert, loose_ready, begin_cases, poll_cases, ready_cases, ready_with_cases, fail_cases, get_cases, release_cases, release_and_evict_cases, repin_cases, advice_evict_cases, invalidate_cases, insert_cases, read_cases, prune_cases, set_capacity_cases, total_cases}
 
 module _ {K V : Type 0} where
   -- the capacity is c, and the greatest number of pins is as it was
@@ -81,6 +82,8 @@ module _ {K V : Type 0} (E : K → K → Bool) (old : Cache K V) where
   step_limits new (ask.begin_strictly k charge) p out h = begin_limits new k charge p out (loose_begin E old k charge p out new h)
   step_limits new (ask.poll s) p out h = same_limits old _ new old.capacity (refl, refl) (poll_cases E old s p out new h).2.changed
   step_limits new (ask.ready s v) p out h = same_limits old _ new old.capacity (refl, refl) (ready_cases E old s v p out new h).1.changed
+  step_limits new (ask.ready_with s v c) p out h = same_limits old _ new old.capacity (refl, refl) (ready_with_cases E old s v c p out new h).1.settles.others
+  step_limits new (ask.ready_with_strictly s v c) p out h = same_limits old _ new old.capacity (refl, refl) (ready_with_cases E old s v c p out new (loose_ready E old s v c p out new h)).1.settles.others
   step_limits new (ask.fail s) p out h = elim (fail_cases E old s p out new h) [
     | inl a ↦ same_limits old _ new old.capacity (refl, refl) a.1.changed
     | inr a ↦ same_limits old _ new old.capacity (refl, refl) a.2.changed
@@ -163,6 +166,8 @@ module _ {K V : Type 0} (E : K → K → Bool) (laws : IsEquivalence E) (old : C
   step_lawful new (ask.begin_strictly k charge) p out above h = begin_lawful new k charge p out above (loose_begin E old k charge p out new h)
   step_lawful new (ask.poll s) p out above h = let a = poll_cases E old s p out new h in changes_phase_lawful E old new s a.0 (phase_after_asking a.0) out l a.2
   step_lawful new (ask.ready s v) p out above h = changes_phase_lawful E old new s making (ready v) out l (ready_cases E old s v p out new h).1
+  step_lawful new (ask.ready_with s v c) p out above h = charges_lawful E old new s v c out l above (ready_with_cases E old s v c p out new h).1
+  step_lawful new (ask.ready_with_strictly s v c) p out above h = charges_lawful E old new s v c out l above (ready_with_cases E old s v c p out new (loose_ready E old s v c p out new h)).1
   step_lawful new (ask.fail s) p out above h = elim (fail_cases E old s p out new h) [
     | inl a ↦ leaves_lawful E old new s making untaken out l a.1
     | inr a ↦ removes_lawful E old new s a.0 out l a.2

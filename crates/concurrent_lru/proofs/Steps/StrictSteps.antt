@@ -1,19 +1,21 @@
--- A strict begin or insert is granted only within the capacity. No other request raises the sum.
+-- A strict begin, insert or ready_with is granted only within the capacity. No other request raises
+-- the sum.
 use Rattle.std.proofs.Common.{◌≡◌, ℕ, ◌+◌, ◌≤◌, ◌⊎◌, inl, inr, Bool, false, List, [], length, ap, subst, arith}
-use Rattle.concurrent_lru.specs.Cache.{Cache, Idle, Held, IsLawful, Settles, HasCapacityFor, IsWithinCapacity, charges, making, ready, untaken, pinned_of, sum_of}
+use Rattle.concurrent_lru.specs.Cache.{Cache, Idle, Held, IsLawful, Settles, HasCapacityFor, HasCapacityToCharge, IsWithinCapacity, charges, making, ready, untaken, pinned_of, sum_of}
 use Rattle.concurrent_lru.specs.Representation.{held_charges}
 use Rattle.concurrent_lru.specs.Request as ask
 use Rattle.concurrent_lru.specs.Request.{Request}
 use Rattle.concurrent_lru.specs.Reply as say
 use Rattle.concurrent_lru.specs.Reply.{Reply}
 use Rattle.concurrent_lru.specs.Runs.{Outcome, accepted, refused, Stands}
-use Rattle.concurrent_lru.specs.Steps.{with_held, held_detached, Makes, Invalidates, Stores, Step, IsAbsent}
+use Rattle.concurrent_lru.specs.Steps.{with_held, held_detached, Holds, Makes, Invalidates, Stores, Step, IsAbsent}
 use Rattle.concurrent_lru.specs.StepLaws.{IsStrict, StrictRequestsKeepLimit, capacity_by}
 use Rattle.concurrent_lru.specs.declared.refusal.Refusal.TheVariants.{Memory, Overflow, Stale, Full}
 use Rattle.concurrent_lru.proofs.AddedUp.SizesOfSteps.{Resizes, same_size, settled_size, joined_size, left_size, phase_size, hit_size, removed_size, released_and_evicted_size, repinned_size, pruned_size}
 use Rattle.concurrent_lru.proofs.AddedUp.CountsOfSteps.{release_evicts, advice_evicts, invalidate_evicts, capacity_evicts, renewed_size}
 use Rattle.concurrent_lru.proofs.Entries.SumsOfHeld.{sum-insert, sum-change}
 use Rattle.concurrent_lru.proofs.Steps.BeginOfAbsent.{with_new_entry, next_free}
+use Rattle.concurrent_lru.proofs.Steps.ChargeOfMaking.{charged_within}
 use Rattle.concurrent_lru.proofs.Steps.LawfulAfterChange.{orderly}
 use Rattle.concurrent_lru.proofs.Steps.StaysLawful.{keeps_limits, invalidates_lawful}
 
@@ -73,6 +75,8 @@ module _ {K V : Type 0} (E : K → K → Bool) where
   step_within old new (ask.poll s) (say.make t) out l strict h = inl (no_more old new 0 0 (phase_size {E = E} old new s untaken making out h.1))
   step_within old new (ask.poll s) (say.hit t v) out l strict h = inl (no_more old new 0 0 (phase_size {E = E} old new s (ready v) (ready v) out h.1))
   step_within old new (ask.ready s v) say.done out l strict h = inl (no_more old new 0 0 (phase_size {E = E} old new s making (ready v) out h))
+  step_within old new (ask.ready_with s v c) p out l strict h = absurd strict
+  step_within old new (ask.ready_with_strictly s v c) say.done out l strict h = inr (charged_within E old new s v c out h.0 h.1)
   step_within old new (ask.fail s) say.left out l strict h = inl (no_more old new 0 0 (left_size {E = E} old new s making untaken out h))
   step_within old new (ask.fail s) (say.removed k) out l strict h = inl (no_more old new 1 h.entry.charge (removed_size {E = E} old new s k out h))
   step_within old new (ask.get k) (say.hit s v) out l strict h = inl (no_more old new 0 0 (hit_size {E = E} old new k s v out l h))
@@ -122,6 +126,14 @@ module _ {K V : Type 0} (E : K → K → Bool) where
   strictly_begun old new k charge (refused Full) may h = absurd h.0
   strictly_begun old new k charge (refused Overflow) may h = (still_refused old k charge may h.0, h.1)
   strictly_begun old new k charge (refused Memory) may h = (still_refused old k charge may h.0, h.1)
+
+  pub strictly_charged : (old new : Cache K V) (s : ℕ) (v : V) (charge : ℕ) (o : Outcome K V) → ((e : Held K V) → Holds old s e making → HasCapacityToCharge old e.charge charge) → Stands E old (ask.ready_with s v charge) o new → Stands E old (ask.ready_with_strictly s v charge) o new
+  strictly_charged old new s v charge (accepted say.done out) has h = (h, has h.entry h.holds)
+  strictly_charged old new s v charge (accepted reply out) has h = absurd h
+  strictly_charged old new s v charge (refused Overflow) has h = ((h.0.0, h.0.1, (has h.0.0 h.0.1, h.0.2)), h.1)
+  strictly_charged old new s v charge (refused Stale) has h = h
+  strictly_charged old new s v charge (refused Memory) has h = absurd h.0
+  strictly_charged old new s v charge (refused Full) has h = absurd h.0
 
   pub strictly_inserted : (old new : Cache K V) (k : K) (charge : ℕ) (v : V) (o : Outcome K V) → HasCapacityFor old charge → Stands E old (ask.insert k charge v) o new → Stands E old (ask.insert_strictly k charge v) o new
   strictly_inserted old new k charge v (accepted (say.inserted s) out) has h = (has, h)

@@ -46,6 +46,12 @@ abbrev pub Finds : List ℕ → ℕ → ℕ → Step → Type 0
 Finds ms mark at (Item k) = (mark_at ms k ≡ mark) × (walk_at ms mark at ≡ walk_at ms mark k)
 Finds ms mark at End = walk_at ms mark at ≡ []
 
+-- the empty bucket at which the search for a mark ends
+pub record Ends (ms : List ℕ) (mark at : ℕ) : Type 0 where
+  pub within : at < length ms
+  pub is_empty : IsEmptyAt ms at
+  pub before : (m : ℕ) → m < length ms → steps (length ms) (home_of (length ms) mark) m < steps (length ms) (home_of (length ms) mark) at → IsFilledAt ms m
+
 -- among n buckets, none from the home of a mark to the bucket with the mark is empty
 abbrev pub IsReachedIn : ℕ → List ℕ → Type 0
 IsReachedIn n ms = (k m : ℕ) → IsFilledAt ms k → m < n

@@ -14,8 +14,13 @@ use std::hash::Hash;
 use std::sync::Arc;
 
 impl<K: Hash + Eq + Clone + Drop, V: Drop, F: Fit<K, V>> Locked<K, V, F> {
-    /// `insert`, or `insert_strictly` if the limit is strict.
-    pub fn put(
+    /// The core's `insert`, or its `insert_strictly` if the limit is strict: the new entry of the
+    /// key gets `stored`, and the pin holds `read`, another `Arc` of the same value. What it
+    /// replaced, and what its charge evicted, are sealed.
+    ///
+    /// Returns `Full`, `Overflow` and `Memory` as there: then no entry changes, and both `Arc`s are
+    /// sealed.
+    pub fn insert(
         &mut self,
         key: &K,
         charge: u64,
@@ -35,39 +40,6 @@ impl<K: Hash + Eq + Clone + Drop, V: Drop, F: Fit<K, V>> Locked<K, V, F> {
             self.old.cache key.now charge e.0 self.new.cache) }
         ensures refused_strictly { IsTrue self.old.strict → IfErr result
             (λ e. RefusesToReplaceStrictly K.eq self.old.cache key.now charge e.0 self.new.cache) }
-        ensures pin { IfOk result (λ r. (r.0.key ≡ key.now) × (r.0.charge ≡ Some charge)
-            × (r.0.value ≡ arc_value stored)) }
-        ensures never_stale { IfErr result (λ e. e.0 ≢ Refusal.Stale) }
-        ensures strict { self.new.strict ≡ self.old.strict }
-    {
-        if self.strict {
-            return self.insert_strictly(key, charge, stored, read);
-        }
-        self.insert(key, charge, stored, read)
-    }
-
-    /// The core's `insert_strictly`, with the pin and the seals of `insert`.
-    ///
-    /// Returns `Full`, `Overflow` and `Memory` as there: then no entry changes, and both `Arc`s are
-    /// sealed.
-    pub fn insert_strictly(
-        &mut self,
-        key: &K,
-        charge: u64,
-        stored: Arc<V>,
-        read: Arc<V>,
-    ) -> Result<
-        (HeldPin<K, V, F>, Sealed<(Evicted<K, V>, Evicted<K, V>)>),
-        (Refusal, Sealed<(Arc<V>, Arc<V>)>),
-    >
-        requires charged { 0 < charge }
-        requires fits { F.fits key.now (arc_value stored) }
-        requires same { arc_value read ≡ arc_value stored }
-        ensures step { IfOk result (λ r. Replaces K.eq self.old.cache key.now charge
-            (arc_value stored) r.0.stamp r.1.0 r.1.1 self.new.cache) }
-        ensures room { OnOk result (HasCapacityFor self.old.cache charge) }
-        ensures refused { IfErr result (λ e. RefusesToReplaceStrictly K.eq self.old.cache key.now
-            charge e.0 self.new.cache) }
         ensures inserted { IfOk result (λ r. self.new.counts
             ≡ replaced r.1.0 r.1.1 charge self.old.counts) }
         ensures counts { OnErr result (self.new.counts ≡ one_refusal self.old.counts) }
@@ -76,42 +48,10 @@ impl<K: Hash + Eq + Clone + Drop, V: Drop, F: Fit<K, V>> Locked<K, V, F> {
         ensures never_stale { IfErr result (λ e. e.0 ≢ Refusal.Stale) }
         ensures strict { self.new.strict ≡ self.old.strict }
     {
-        if self.state.lacks_capacity_for(charge) {
+        if self.strict && self.state.lacks_capacity_for(charge) {
             self.counts.refuse();
             return Err((Refusal::Full, Sealed::of((stored, read))));
         }
-        self.insert(key, charge, stored, read)
-    }
-
-    /// The core's `insert`: the new entry of the key gets `stored`, and the pin holds `read`,
-    /// another `Arc` of the same value. What it replaced, and what its charge evicted, are sealed.
-    ///
-    /// Returns `Overflow` and `Memory` as there: then no entry changes, and both `Arc`s are sealed.
-    pub fn insert(
-        &mut self,
-        key: &K,
-        charge: u64,
-        stored: Arc<V>,
-        read: Arc<V>,
-    ) -> Result<
-        (HeldPin<K, V, F>, Sealed<(Evicted<K, V>, Evicted<K, V>)>),
-        (Refusal, Sealed<(Arc<V>, Arc<V>)>),
-    >
-        requires charged { 0 < charge }
-        requires fits { F.fits key.now (arc_value stored) }
-        requires same { arc_value read ≡ arc_value stored }
-        ensures step { IfOk result (λ r. Replaces K.eq self.old.cache key.now charge
-            (arc_value stored) r.0.stamp r.1.0 r.1.1 self.new.cache) }
-        ensures refused { IfErr result (λ e. RefusesToReplace K.eq self.old.cache key.now charge e.0
-            self.new.cache) }
-        ensures inserted { IfOk result (λ r. self.new.counts
-            ≡ replaced r.1.0 r.1.1 charge self.old.counts) }
-        ensures counts { OnErr result (self.new.counts ≡ one_refusal self.old.counts) }
-        ensures pin { IfOk result (λ r. (r.0.key ≡ key.now) × (r.0.charge ≡ Some charge)
-            × (r.0.value ≡ arc_value stored)) }
-        ensures never_stale { IfErr result (λ e. e.0 ≢ Refusal.Stale) }
-        ensures strict { self.new.strict ≡ self.old.strict }
-    {
         let (inserted, hint) = match self.state.insert_at(key, charge, stored) {
             Ok(inserted) => inserted,
             Err((refusal, stored)) => {

@@ -1,9 +1,10 @@
 //! What a caller has in an entry, as debts: types that are not `Drop`, so that the checker refuses
 //! a path that forgets one. Each is taken only by the call that settles it.
-ghost use Rattle.std.specs.Prelude.{◌≡◌, IfOk, IfErr};
+ghost use Rattle.std.specs.Prelude.{◌≡◌, Some, None, IfOk, IfErr};
 ghost use Rattle.std.specs.Arc.{arc_value};
 ghost use Rattle.std.specs.Sync.Mutex.{mutex_guard_value};
 
+use crate::as_key::AsKey;
 use crate::fit::Fit;
 use crate::locked::Locked;
 use crate::lru_core::{Evicted, Refusal, Spot};
@@ -49,6 +50,31 @@ impl<K> Making<K> {
             asked: Snapshot::of(key),
             charge,
         }
+    }
+}
+
+impl<K: Hash + Eq + Clone> Making<K> {
+    // Returns the maker's pin as one that reads the value that was made, with this charge.
+    pub(super) fn into_pin<V, F: Fit<K, V>>(
+        self,
+        key: &K,
+        charge: u64,
+        value: Arc<V>,
+    ) -> HeldPin<K, V, F>
+        requires { F.fits key.now (arc_value value) }
+        ensures { result ≡ record {
+          stamp = self.stamp;
+          key = key.now;
+          charge = Some charge;
+          value = arc_value value;
+        } }
+    {
+        let Self {
+            spot,
+            asked: _,
+            charge: _,
+        } = self;
+        HeldPin::of(spot, key, Some(charge), value)
     }
 }
 
@@ -200,21 +226,41 @@ impl<K: Hash + Eq + Clone, V, F: Fit<K, V>> Model for HeldPin<K, V, F> {
 
 impl<K: Hash + Eq + Clone, V, F: Fit<K, V>> HeldPin<K, V, F> {
     // Creates a pin in the spot's entry. A `get` has no charge.
-    pub(super) fn of(spot: Spot, key: &K, charge: Option<u64>, value: Arc<V>) -> Self
-        requires { F.fits key.now (arc_value value) }
+    pub(super) fn of<Q: AsKey<K>>(spot: Spot, key: Q, charge: Option<u64>, value: Arc<V>) -> Self
+        requires { F.fits (Q.owned key) (arc_value value) }
         ensures { result ≡ record {
           stamp = spot.stamp;
-          key = key.now;
+          key = Q.owned key;
           charge = charge;
           value = arc_value value;
         } }
     {
         HeldPin {
             spot,
-            asked: Shown::of(key),
+            asked: Shown::by_key(&key),
             charge: Shown::of(&charge),
             value,
             mark: PhantomData,
+        }
+    }
+
+    // Returns this pin as one of a caller that asked with no charge.
+    pub(crate) fn uncharged(self) -> Self
+        ensures { result ≡ record self { charge = None } }
+    {
+        let Self {
+            spot,
+            asked,
+            charge: _,
+            value,
+            mark,
+        } = self;
+        HeldPin {
+            spot,
+            asked,
+            charge: Shown::of(&None),
+            value,
+            mark,
         }
     }
 

@@ -1,6 +1,4 @@
 //! The callers that may wait for what a call under the lock did, as a debt: they are to be woken.
-ghost use Rattle.std.specs.Prelude.{◌≡◌};
-
 use std::marker::Model;
 use std::sync::Condvar;
 
@@ -8,7 +6,7 @@ use std::sync::Condvar;
 ///
 /// Clauses see whether there may be any.
 pub struct Waiters {
-    some: bool,
+    pub(super) some: bool,
 }
 
 impl Model for Waiters {
@@ -20,13 +18,6 @@ impl Model for Waiters {
 }
 
 impl Waiters {
-    // Creates the debt to wake the callers that wait, or nobody.
-    pub(super) fn of(some: bool) -> Self
-        ensures { result ≡ some }
-    {
-        Waiters { some }
-    }
-
     /// Wakes all callers that wait, if there may be any.
     #[inline(always)]
     pub fn wake(self, woken: &Condvar) {

@@ -1,5 +1,5 @@
 //! The entries of a cache that have a value: a walk over all of them, and each by its stamp.
-ghost use Rattle.std.specs.Prelude.{◌≡◌, None, Some, MatchOption};
+ghost use Rattle.std.specs.Prelude.{◌≡◌, None, Some, IfSome, MatchOption};
 ghost use Rattle.concurrent_lru.specs.NodeTable.{entry_of};
 ghost use Rattle.concurrent_lru.specs.ReadyEntries.{ListsReady, entry_of_ref, ready_at, ready_in, ready_from_node};
 
@@ -103,6 +103,32 @@ where
             next: 0,
             end: self.table.end_of_places(),
         }
+    }
+
+    // Returns a number above those of all places that have an entry.
+    pub(crate) fn end_of_places(&self) -> usize {
+        self.table.end_of_places()
+    }
+
+    // Returns the spot of the entry at a place, if there is one, whether it has a value or not.
+    pub(crate) fn spot_in(&self, place: Place) -> Option<Spot> {
+        let node = self.table.node_at(place)?;
+        let hint = Hint {
+            hash: node.hash,
+            place,
+        };
+        Some(Spot {
+            stamp: node.stamp,
+            hint,
+        })
+    }
+
+    // Returns the entry at a place, if there is one and it has a value.
+    pub(crate) fn entry_in(&self, place: Place) -> Option<EntryRef<'_, K, V>>
+        ensures { IfSome result
+            (λ entry. ready_at self.now.cache entry.stamp ≡ Some (entry_of_ref entry)) }
+    {
+        ready_at_place(&self.table, place)
     }
 
     /// Returns the entry with a stamp, if there is one and it has a value: idle or held, detached

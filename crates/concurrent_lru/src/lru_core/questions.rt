@@ -1,12 +1,14 @@
 //! Calls that change nothing.
 ghost use Rattle.std.specs.Prelude.{◌≡◌, ◌↔◌, IsTrue, IsFalse, MatchOption};
 ghost use Rattle.concurrent_lru.specs.Cache.{count_of, pinned_of, IsLawful, HasKeyAt, LacksStamp, IsWithinLimits};
+ghost use Rattle.concurrent_lru.specs.Makings.{IsBeingMade};
 ghost use Rattle.concurrent_lru.specs.Ready.{HasReadyKey};
 ghost use Rattle.concurrent_lru.specs.Request as ask;
 ghost use Rattle.concurrent_lru.specs.Results.{outcome_of_total};
 ghost use Rattle.concurrent_lru.specs.Runs.{Stands};
 ghost use Rattle.concurrent_lru.specs.Steps.{IsUnready};
 
+use crate::as_key::AsKey;
 use crate::lru_core::State;
 use crate::node_table::Phase;
 use crate::share::Sharing;
@@ -53,14 +55,28 @@ where
 
     /// Returns whether the key has a ready value, idle or held. An entry that is still being made
     /// does not count. Pins nothing, and leaves the order of eviction as it is.
-    pub fn contains(&self, key: &K) -> bool
-        ensures yes { IsTrue result → HasReadyKey K.eq self.now.cache key.now }
-        ensures no { IsFalse result → IsUnready K.eq self.now.cache key.now }
+    pub fn contains<Q: AsKey<K>>(&self, key: Q) -> bool
+        ensures yes { IsTrue result → HasReadyKey K.eq self.now.cache (Q.owned key) }
+        ensures no { IsFalse result → IsUnready K.eq self.now.cache (Q.owned key) }
     {
         let Ok(found) = self.table.find_key(key) else {
             return false;
         };
         let Phase::Ready(_) = &found.node.phase else {
+            return false;
+        };
+        true
+    }
+
+    // Returns whether a caller is making the key's value.
+    pub(crate) fn is_being_made(&self, key: &K) -> bool
+        ensures yes { IsTrue result → IsBeingMade K.eq self.now.cache key.now }
+        ensures no { IsFalse result → IsBeingMade K.eq self.now.cache key.now → ⊥ }
+    {
+        let Ok(found) = self.table.find_key(key) else {
+            return false;
+        };
+        let Phase::Making = &found.node.phase else {
             return false;
         };
         true

@@ -63,6 +63,16 @@ where
                 Ok(()) => Answer::Done,
                 Err(value) => Answer::Back(value),
             },
+            Step::ReadyWith(stamp, value, charge) => match self.ready_with(stamp, value, charge) {
+                Ok(evicted) => Answer::Gone(evicted),
+                Err((refusal, value)) => Answer::NotReady(refusal, value),
+            },
+            Step::ReadyWithStrictly(stamp, value, charge) => {
+                match self.ready_with_strictly(stamp, value, charge) {
+                    Ok(evicted) => Answer::Gone(evicted),
+                    Err((refusal, value)) => Answer::NotReady(refusal, value),
+                }
+            }
             Step::Fail(stamp) => match self.fail(stamp) {
                 Ok(failed) => Answer::Failed(failed),
                 Err(refusal) => Answer::Refused(refusal),

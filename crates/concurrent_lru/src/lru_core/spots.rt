@@ -1,17 +1,18 @@
 //! The calls for a caller that keeps a spot of each entry that it pins: those that pin an entry
 //! return a hint of it, and those by stamp take a spot. They hash no stamp, so they suit a cache
 //! without a map by stamp.
-ghost use Rattle.std.specs.Prelude.{◌≡◌, ◌+◌, ◌<◌, ◌≤◌, ◌⊎◌, None, OnOk, OnErr, IfErr, IfOk, IsTrue, IsFalse, MatchOption, length};
-ghost use Rattle.concurrent_lru.specs.Cache.{IsLawful, HasKeyAt, LacksStamp, HasNoOtherPin, HasCapacityFor, LacksCapacityFor, IsWithinCapacity};
+ghost use Rattle.std.specs.Prelude.{◌≡◌, ◌+◌, ◌<◌, ◌≤◌, ◌⊎◌, Some, None, OnOk, OnErr, IfErr, IfOk, IsTrue, IsFalse, MatchOption, length};
+ghost use Rattle.concurrent_lru.specs.Cache.{Held, making, held_at, IsLawful, HasKeyAt, LacksStamp, HasNoOtherPin, HasCapacityFor, LacksCapacityFor, HasCapacityToCharge, LacksCapacityToCharge, IsWithinCapacity};
 ghost use Rattle.concurrent_lru.specs.Counted.{WritesAtMostOneMore};
 ghost use Rattle.concurrent_lru.specs.Inserts.{Inserts, InsertsStrictly, Remakes};
 ghost use Rattle.concurrent_lru.specs.KeyHashes.{IsHashOf};
 ghost use Rattle.concurrent_lru.specs.Ready.{HasEqualKeyAt};
 ghost use Rattle.concurrent_lru.specs.Request as ask;
-ghost use Rattle.concurrent_lru.specs.Results.{outcome_of_begin_by, outcome_of_poll_by, outcome_of_ready_by, outcome_of_fail, outcome_of_get_by, outcome_of_release, outcome_of_repin_by, outcome_of_insert_by, begun_without_hint, found_without_hint, inserted_without_hint};
-ghost use Rattle.concurrent_lru.specs.Runs.{Stands};
-ghost use Rattle.concurrent_lru.specs.Steps.{IsAbsent};
+ghost use Rattle.concurrent_lru.specs.Results.{outcome_of_begin_by, outcome_of_poll_by, outcome_of_ready_by, outcome_of_ready_with, outcome_of_fail, outcome_of_get_by, outcome_of_release, outcome_of_repin_by, outcome_of_insert_by, begun_without_hint, found_without_hint, inserted_without_hint};
+ghost use Rattle.concurrent_lru.specs.Runs.{IsMadeAt, Stands};
+ghost use Rattle.concurrent_lru.specs.Steps.{Holds, IsAbsent};
 
+use crate::as_key::AsKey;
 use crate::lru_core::{Evicted, Failed, Inserted, Refusal, State};
 use crate::node_table::{Found, Node, Phase};
 use crate::share::{Sharing, Stored};
@@ -114,7 +115,9 @@ where
         pinned > self.capacity || charge > self.capacity - pinned
     }
 
-    // Returns whether the key finds no entry, in any phase.
+    // Returns whether the key finds no entry, in any phase. Begins ask it only where there is no
+    // room, so it is left as a call.
+    #[inline(never)]
     fn lacks_entry(&self, key: &K) -> bool
         ensures yes { IsTrue result → IsAbsent K.eq self.now.cache key.now }
         ensures no { IsFalse result → IsAbsent K.eq self.now.cache key.now → ⊥ }
@@ -235,6 +238,84 @@ where
         (Ok(()), shared)
     }
 
+    /// Does what `ready_with` does, by spot.
+    pub fn ready_with_at(
+        &mut self,
+        spot: &Spot,
+        value: M::Share,
+        charge: u64,
+    ) -> Result<Evicted<K, V, M>, (Refusal, M::Share)>
+        requires { 0 < charge }
+        ensures step { Stands K.eq self.old.cache
+            (ask.ready_with spot.now.stamp (M.seen value) charge)
+            (outcome_of_ready_with result) self.new.cache }
+        ensures work { IfOk result (λ evicted. self.new.work ≡ self.old.work + length evicted) }
+        ensures same { OnErr result (self.new ≡ self.old) }
+        ensures back { IfErr result (λ e. e.1 ≡ value) }
+        ensures lawful { IsLawful K.eq self.new.cache }
+    {
+        // A proved program does not run this. One that `rt try` runs stops here at a charge of 0.
+        prove!(charge > 0);
+        let Some(found) = self.table.find_stamp(spot) else {
+            return Err((Refusal::Stale, value));
+        };
+        let Found { place, link, node } = found;
+        let Phase::Making = &node.phase else {
+            return Err((Refusal::Stale, value));
+        };
+        // The charge with which the making was begun no longer counts.
+        let rest = self.table.total() - node.charge;
+        if charge > u64::MAX - rest {
+            return Err((Refusal::Overflow, value));
+        }
+        self.table.set_charge(place, link, charge);
+        self.table
+            .set_phase(place, link, Phase::Ready(Stored::new(value)));
+        Ok(self.table.settle(self.capacity))
+    }
+
+    /// Does what `ready_with_strictly` does, by spot.
+    pub fn ready_with_strictly_at(
+        &mut self,
+        spot: &Spot,
+        value: M::Share,
+        charge: u64,
+    ) -> Result<Evicted<K, V, M>, (Refusal, M::Share)>
+        requires { 0 < charge }
+        ensures step { Stands K.eq self.old.cache
+            (ask.ready_with_strictly spot.now.stamp (M.seen value) charge)
+            (outcome_of_ready_with result) self.new.cache }
+        ensures limit { IsWithinCapacity self.old.cache → IsWithinCapacity self.new.cache }
+        ensures work { IfOk result (λ evicted. self.new.work ≡ self.old.work + length evicted) }
+        ensures same { OnErr result (self.new ≡ self.old) }
+        ensures back { IfErr result (λ e. e.1 ≡ value) }
+        ensures lawful { IsLawful K.eq self.new.cache }
+    {
+        if self.is_full_with(spot, charge) {
+            return Err((Refusal::Full, value));
+        }
+        self.ready_with_at(spot, value, charge)
+    }
+
+    // Returns whether `ready_with_strictly` is refused as `Full`: the spot's entry is being made,
+    // and its new charge exceeds the capacity together with the charges of the other held entries.
+    pub(crate) fn is_full_with(&self, spot: &Spot, charge: u64) -> bool
+        ensures yes { IsTrue result → IsMadeAt K.eq self.now.cache spot.now.stamp
+            (λ was. LacksCapacityToCharge self.now.cache was charge) }
+        ensures no { IsFalse result → (e : Held K V) → Holds self.now.cache spot.now.stamp e making
+            → HasCapacityToCharge self.now.cache e.charge charge }
+        ensures lawful { IsLawful K.eq self.now.cache }
+    {
+        let Some(found) = self.table.find_stamp(spot) else {
+            return false;
+        };
+        let Phase::Making = &found.node.phase else {
+            return false;
+        };
+        let others = self.table.pinned_charge() - found.node.charge;
+        others > self.capacity || charge > self.capacity - others
+    }
+
     /// Does what `fail` does, by spot.
     pub fn fail_at(&mut self, spot: &Spot) -> Result<Failed<K>, Refusal>
         ensures step { Stands K.eq self.old.cache (ask.fail spot.now.stamp) (outcome_of_fail result)
@@ -271,8 +352,8 @@ where
 
     /// Does what `get` does, with the same refusals, and also returns a hint of the entry.
     #[inline(always)]
-    pub fn get_at(&mut self, key: &K) -> Result<Option<(u64, M::Share, Hint)>, Refusal>
-        ensures step { Stands K.eq self.old.cache (ask.get key.now)
+    pub fn get_at<Q: AsKey<K>>(&mut self, key: Q) -> Result<Option<(u64, M::Share, Hint)>, Refusal>
+        ensures step { Stands K.eq self.old.cache (ask.get (Q.owned key))
             (outcome_of_get_by M.seen (found_without_hint result)) self.new.cache }
         ensures work { WritesAtMostOneMore self.old
             (outcome_of_get_by M.seen (found_without_hint result)) self.new }
@@ -511,6 +592,17 @@ where
         match self.table.find_stamp(spot) {
             Some(found) => (found.node.key == *key, found.node.pins > 1),
             None => (false, false),
+        }
+    }
+
+    // Returns the charge of the entry with the spot's stamp, or 0 if there is none.
+    pub(crate) fn charge_at(&self, spot: &Spot) -> u64
+        ensures { (e : Held K V) → held_at self.now.cache spot.now.stamp ≡ Some e
+            → result ≡ e.charge }
+    {
+        match self.table.find_stamp(spot) {
+            Some(found) => found.node.charge,
+            None => 0,
         }
     }
 

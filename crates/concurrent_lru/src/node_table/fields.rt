@@ -1,6 +1,6 @@
 //! The links of a node in the idle order, and the writes of a node's fields.
 ghost use Rattle.std.specs.Prelude.{◌≡◌};
-ghost use Rattle.concurrent_lru.specs.NodeTable.{entry_of, entry_with_pins, entry_detached, entry_with_phase};
+ghost use Rattle.concurrent_lru.specs.NodeTable.{entry_of, entry_with_charge, entry_with_pins, entry_detached, entry_with_phase};
 
 use crate::node_table::{Node, Phase};
 
@@ -64,6 +64,12 @@ impl<K: Drop, V: Drop> Node<K, V> {
         ensures { IsRevalued self.old self.new (entry_with_pins pins (entry_of self.old)) }
     {
         self.pins = pins;
+    }
+
+    pub(super) fn set_charge(&mut self, charge: u64)
+        ensures { IsRevalued self.old self.new (entry_with_charge charge (entry_of self.old)) }
+    {
+        self.charge = charge;
     }
 
     pub(super) fn set_detached(&mut self)

@@ -21,7 +21,7 @@ use std::alloc::{AllocError, Global};
 
 // The nodes of a `Nodes`, and how often one was looked up to be written or taken.
 pub(super) struct Slots<K, V> {
-    pointers: Slab<At<Node<K, V>>>,
+    pub(super) pointers: Slab<At<Node<K, V>>>,
     // The nodes that are not detached.
     pub(super) by_hash: OpenTable<At<Node<K, V>>>,
     pub(super) memory: Memory<Node<K, V>, Global>,
@@ -179,13 +179,6 @@ impl<K: Drop, V: Drop> Slots<K, V> {
         ensures { IsNodeAt self.now slot result.now }
     {
         self.memory.get(self.pointers[slot])
-    }
-
-    // Returns the number of nodes.
-    pub(super) fn len(&self) -> usize
-        ensures { result ≡ slab_len self.now.pointers }
-    {
-        self.pointers.len()
     }
 
     // Returns whether there is a node in a slot. Any number will do.

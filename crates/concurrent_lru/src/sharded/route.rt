@@ -8,6 +8,7 @@ ghost use Rattle.concurrent_lru.specs.Sharded.{key_number};
 
 mod each;
 
+use crate::as_key::AsKey;
 use crate::fit::Fit;
 use crate::lru_core::Refusal;
 use crate::shards::{capacity_per_shard, choose_shard};
@@ -77,12 +78,12 @@ impl<K: Hash + Eq + Clone + Drop, V: Drop, R: Wait, S: BuildHasher, F: Fit<K, V>
     F,
 > {
     /// Returns the shard that serves a key: its hash modulo the number of shards.
-    pub fn of(&self, key: &K) -> &LruCache<K, V, R, F>
+    pub fn of<Q: AsKey<K>>(&self, key: Q) -> &LruCache<K, V, R, F>
         ensures route { slice_get self.now.shards.items
-            (key_number S.BuildHasher S.Hasher.Hasher K.hash_input self.now.hasher key.now % vec_len
-            self.now.shards) ≡ Some result.now }
+            (key_number S.BuildHasher S.Hasher.Hasher K.hash_input self.now.hasher (Q.owned key)
+            % vec_len self.now.shards) ≡ Some result.now }
     {
-        &self.shards[choose_shard(&self.hasher, key, self.shards.len())]
+        &self.shards[choose_shard::<K, Q, S>(&self.hasher, key, self.shards.len())]
     }
 
     /// Returns the route to that shard, for callers that return to it without the key.
@@ -92,7 +93,7 @@ impl<K: Hash + Eq + Clone + Drop, V: Drop, R: Wait, S: BuildHasher, F: Fit<K, V>
         ensures within { result.index < vec_len self.now.shards }
     {
         Route {
-            index: choose_shard(&self.hasher, key, self.shards.len()),
+            index: choose_shard::<K, &K, S>(&self.hasher, key, self.shards.len()),
         }
     }
 

@@ -36,6 +36,12 @@ impl<K: Hash + Eq + Clone, V: Drop, S: BuildHasher + Drop> Shards<K, V, S> {
             ShardStep::Read(key) => (self.route(&key), Step::Read(key)),
             ShardStep::Poll(shard, stamp) => (shard, Step::Poll(stamp)),
             ShardStep::Ready(shard, stamp, value) => (shard, Step::Ready(stamp, value)),
+            ShardStep::ReadyWith(shard, stamp, value, charge) => {
+                (shard, Step::ReadyWith(stamp, value, charge))
+            }
+            ShardStep::ReadyWithStrictly(shard, stamp, value, charge) => {
+                (shard, Step::ReadyWithStrictly(stamp, value, charge))
+            }
             ShardStep::Fail(shard, stamp) => (shard, Step::Fail(stamp)),
             ShardStep::Release(shard, stamp) => (shard, Step::Release(stamp)),
             ShardStep::ReleaseAndEvict(shard, stamp) => (shard, Step::ReleaseAndEvict(stamp)),
@@ -99,6 +105,8 @@ fn tell_no_shard<K: Drop, V: Drop>(step: Step<K, V>) -> Answer<K, V>
 {
     match step {
         Step::Ready(_, value) => Answer::Back(value),
+        Step::ReadyWith(_, value, _) => Answer::NotReady(Refusal::Stale, value),
+        Step::ReadyWithStrictly(_, value, _) => Answer::NotReady(Refusal::Stale, value),
         Step::Insert(_, _, value) => Answer::NotInserted(Refusal::Stale, value),
         Step::InsertStrictly(_, _, value) => Answer::NotInserted(Refusal::Stale, value),
         _ => Answer::Refused(Refusal::Stale),

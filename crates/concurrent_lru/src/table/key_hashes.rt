@@ -2,6 +2,7 @@
 ghost use Rattle.std.specs.Prelude.{◌≡◌};
 ghost use Rattle.concurrent_lru.specs.KeyHashes.{key_hash, IsHashOf};
 
+use crate::as_key::AsKey;
 use crate::table::word_hasher::WordHasher;
 use std::hash::{BuildHasher, FoldHasher, Hash, Hasher};
 
@@ -22,17 +23,17 @@ impl KeyHash {
     // shard is chosen by the lowest bits of such a number, so all entries of a shard may share
     // those.
     #[inline(always)]
-    pub fn of<K: Hash>(seed: u64, key: &K) -> KeyHash
-        ensures hash { IsHashOf K.hash_input result key.now }
+    pub fn of<K: Hash + Eq, Q: AsKey<K>>(seed: u64, key: Q) -> KeyHash
+        ensures hash { IsHashOf K.hash_input result (Q.owned key) }
         ensures seed { result.seed ≡ seed }
     {
         let mut hasher = WordHasher {
             inner: FoldHasher::default(),
         };
         hasher.write_u64(seed);
-        key.hash(&mut hasher);
+        key.feed(&mut hasher);
         KeyHash {
-            number: hasher.finish().rotate_left(40),
+            number: hasher.inner.finish().rotate_left(40),
             seed,
         }
     }
@@ -40,14 +41,14 @@ impl KeyHash {
     /// Returns the hash of the same key under a seed. The key is hashed again if this hash was made
     /// with another one.
     #[inline(always)]
-    pub fn under<K: Hash>(self, seed: u64, key: &K) -> u64
+    pub fn under<K: Hash + Eq>(self, seed: u64, key: &K) -> u64
         requires { IsHashOf K.hash_input self key.now }
         ensures { result ≡ key_hash seed K.hash_input key.now }
     {
         if self.seed == seed {
             return self.number;
         }
-        KeyHash::of(seed, key).number
+        KeyHash::of::<K, &K>(seed, key).number
     }
 }
 

@@ -1,11 +1,11 @@
 //! What leaves a table: held entries one by one or all at once, idle ones in their order.
-ghost use Rattle.std.specs.Prelude.{◌≡◌, ◌+◌, Some, None, [], IsSome, IfSome, MatchOption, filter_map, length, ◌∷◌, ◌++◌};
+ghost use Rattle.std.specs.Prelude.{◌≡◌, ◌≢◌, ◌+◌, Some, None, [], IsSome, IfSome, MatchOption, filter_map, length, ◌∷◌, ◌++◌};
 ghost use Rattle.concurrent_lru.specs.Cache.{idle_at, IsFront};
 ghost use Rattle.std.specs.FinMap as map;
 ghost use Rattle.concurrent_lru.specs.NodeTable.{entry_of, chain_of};
 ghost use Rattle.concurrent_lru.specs.Representation.{as_idle, held_entry};
-ghost use Rattle.concurrent_lru.specs.Entries.{cache_of, charges_of, ContainsIdleAt, ContainsHeldAt};
-ghost use Rattle.concurrent_lru.specs.Steps.{without};
+ghost use Rattle.concurrent_lru.specs.Entries.{cache_of, charges_of, ContainsIdleAt, ContainsHeldAt, ContainsFoundAt, EvictsAt, Rewrites};
+ghost use Rattle.concurrent_lru.specs.Steps.{held_detached, without};
 ghost use Rattle.concurrent_lru.specs.TakeAll.{TakesHeld, TakesHeldAt};
 
 use crate::eviction::{Evicted, reverse};
@@ -46,6 +46,24 @@ impl<K: Hash + Eq + Clone, V: Drop> Table<K, V> {
         let node = take_away(&mut self.nodes, &mut self.by_stamp, &mut self.total, place);
         self.idle_charge -= node.charge;
         node
+    }
+
+    /// Takes an entry away from its key, which finds it: an idle one is evicted, and one with pins
+    /// is detached. Takes no memory.
+    pub fn invalidate(&mut self, place: Place, pins: u32) -> Evicted<K, V>
+        requires idle { pins ≡ 0 → ContainsIdleAt self.old place }
+        requires held { pins ≢ 0 → ContainsFoundAt self.old place }
+        ensures evicted { pins ≡ 0 → EvictsAt self.old place result self.new }
+        ensures detached { pins ≢ 0 → Rewrites held_detached self.old place self.new
+            × (result ≡ []) }
+        ensures work { self.new.work ≡ self.old.work + length result }
+    {
+        if pins > 0 {
+            self.detach(place);
+            return Evicted::none();
+        }
+        let node = self.evict(place);
+        Evicted::one(node)
     }
 
     /// Removes every held entry, including detached ones, if no entry is idle. Returns those that

@@ -98,7 +98,7 @@ impl Clock {
         let tag = tag_of(hash);
         match self.entries.hold_listed(&mut self.state, tag, key) {
             Ok(None) => {}
-            Ok(Some((place, value))) => return LruFound::of(code::HIT, value, place),
+            Ok(Some((hold, value))) => return LruFound::lent(code::HIT, value, hold),
             Err(_) => return LruFound::bare(code::OVERFLOW),
         }
         if self.state.refuses(charge, is_strict) {
@@ -108,9 +108,9 @@ impl Clock {
             .entries
             .hold_new(&mut self.state, tag, key, charge, value)
         {
-            Ok(place) => {
+            Ok(hold) => {
                 self.tell_readers();
-                LruFound::of(code::DONE, value, place)
+                LruFound::lent(code::DONE, value, hold)
             }
             Err(refusal) => LruFound::refused(refusal),
         }
@@ -138,11 +138,13 @@ impl Clock {
             .entries
             .hold_over(&mut self.state, tag, key, charge, value, is_strict)
         {
-            Ok(HeldOver::Held(place, None)) => LruFound::of(code::DONE, value, place),
-            Ok(HeldOver::Held(place, Some(gone))) => {
-                write(gone, left);
-                LruFound::of(code::REPLACED, value, place)
-            }
+            Ok(HeldOver::Held(hold, gone)) => match gone {
+                None => LruFound::lent(code::DONE, value, hold),
+                Some(gone) => {
+                    write(gone, left);
+                    LruFound::lent(code::REPLACED, value, hold)
+                }
+            },
             Ok(HeldOver::Blocked(gone)) => {
                 write(gone, left);
                 LruFound::bare(code::GONE)
@@ -173,9 +175,9 @@ impl Clock {
             .entries
             .begin_held(&mut self.state, tag_of(hash), key, charge)
         {
-            Ok(Begun::Make(ticket)) => LruFound::of(code::MAKE, ticket, 0),
+            Ok(Begun::Make(ticket)) => LruFound::of(code::MAKE, ticket),
             Ok(Begun::Wait) => LruFound::bare(code::WAIT),
-            Ok(Begun::Hit(place, value)) => LruFound::of(code::HIT, value, place),
+            Ok(Begun::Hit(hold, value)) => LruFound::lent(code::HIT, value, hold),
             Err(refusal) => LruFound::refused(refusal),
         }
     }
@@ -201,9 +203,9 @@ impl Clock {
             .entries
             .hold_made(&mut self.state, ticket, tag_of(hash), charge, value)
         {
-            Ok(Some(place)) => {
+            Ok(Some(hold)) => {
                 self.tell_readers();
-                LruFound::of(code::DONE, value, place)
+                LruFound::lent(code::DONE, value, hold)
             }
             Ok(None) => LruFound::bare(code::STALE),
             Err(refusal) => LruFound::refused(refusal),

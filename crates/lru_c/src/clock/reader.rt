@@ -7,7 +7,7 @@ use crate::clock::{Entries, tag_of};
 use crate::code;
 use crate::words::key::Words;
 use concurrent_lru::sharded::Refusal;
-use lru_clock::clock_core::{ExcessFlag, Released};
+use lru_clock::clock_core::{ExcessFlag, HoldAt, Released};
 use std::sync::Arc;
 
 /// A thread's access to the entries of a shard.
@@ -34,11 +34,7 @@ impl Reader {
     pub(crate) fn pin_at(&self, place: u32) -> LruFound
         ensures { IsLookup result }
     {
-        match self.entries.hold_at(place) {
-            Ok(Some(value)) => LruFound::of(code::HIT, value, place),
-            Ok(None) => LruFound::bare(code::MISSED),
-            Err(_) => LruFound::bare(code::OVERFLOW),
-        }
+        told_of_lookup(self.entries.hold_at(place))
     }
 
     // Gives back a pin of the entry at a place. After the last one, tells what is left to do under
@@ -64,11 +60,11 @@ impl Reader {
 
 // Returns the answer of a lookup with this result, whose one refusal is `Overflow`.
 #[inline(always)]
-pub(crate) fn told_of_lookup(found: Result<Option<(u32, u64)>, Refusal>) -> LruFound
+pub(crate) fn told_of_lookup(found: Result<Option<(HoldAt, u64)>, Refusal>) -> LruFound
     ensures { IsLookup result }
 {
     match found {
-        Ok(Some((place, value))) => LruFound::of(code::HIT, value, place),
+        Ok(Some((hold, value))) => LruFound::lent(code::HIT, value, hold),
         Ok(None) => LruFound::bare(code::MISSED),
         Err(_) => LruFound::bare(code::OVERFLOW),
     }

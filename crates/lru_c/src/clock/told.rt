@@ -5,6 +5,7 @@ ghost use Rattle.lru_c.specs.Codes as codes;
 
 use crate::code;
 use concurrent_lru::sharded::Refusal;
+use lru_clock::clock_core::HoldAt;
 
 /// What a lookup returns, in two registers: a code, and what goes with it.
 #[repr(C)]
@@ -19,19 +20,31 @@ pub struct LruFound {
 }
 
 impl LruFound {
-    // Returns an answer that names an entry.
+    // Returns an answer that lends a hold: the caller in C has it from then on, by its place.
     #[inline(always)]
-    pub(crate) fn of(code: u32, value: u64, place: u32) -> LruFound
-        ensures { result ≡ found code value place }
+    pub(crate) fn lent(code: u32, value: u64, hold: HoldAt) -> LruFound
+        ensures { result ≡ found code value hold }
     {
+        let place = hold.into_place();
         LruFound { value, code, place }
+    }
+
+    // Returns an answer that lends nothing.
+    pub(crate) fn of(code: u32, value: u64) -> LruFound
+        ensures { result ≡ found code value 0 }
+    {
+        LruFound {
+            value,
+            code,
+            place: 0,
+        }
     }
 
     // Returns an answer that is a code alone.
     pub(crate) fn bare(code: u32) -> LruFound
         ensures { result ≡ bare_found code }
     {
-        LruFound::of(code, 0, 0)
+        LruFound::of(code, 0)
     }
 
     // Returns the answer of a call that was refused, never with `Stale` nor by a strict limit.
@@ -48,7 +61,7 @@ impl LruFound {
     pub(crate) fn number(value: u64) -> LruFound
         ensures { result ≡ found codes.number value 0 }
     {
-        LruFound::of(code::NUMBER, value, 0)
+        LruFound::of(code::NUMBER, value)
     }
 }
 

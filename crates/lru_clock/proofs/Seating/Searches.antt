@@ -6,10 +6,9 @@ use Rattle.std.proofs.lemmas.List.Sums.{count_by-le-length}
 use Rattle.std.proofs.lemmas.Option.{slice_get_within}
 use native.Mathlib.Nat.{pow-le-pow_right}
 use Rattle.concurrent_lru.specs.Probing.Cycle.{next_of, steps, home_of}
-use Rattle.concurrent_lru.specs.Probing.Probes.{mark_at, HasEmpty, IsEmptyAt, IsFilledAt}
+use Rattle.concurrent_lru.specs.Probing.Probes.{mark_at, Ends, HasEmpty, IsEmptyAt, IsFilledAt}
 use Rattle.concurrent_lru.specs.Probing.Entries.{entry}
 use Rattle.concurrent_lru.proofs.Probing.Circle.{home_within}
-use Rattle.concurrent_lru.proofs.Probing.Fills.{Ends}
 use Rattle.lru_clock.specs.Index.{IsSize, word_of}
 use Rattle.lru_clock.specs.Seats.{Seat, LacksKey, HasKeyAt, IsIndex}
 use Rattle.lru_clock.specs.Searches.{SeatHas, SeatLacks}

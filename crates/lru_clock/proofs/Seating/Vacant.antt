@@ -7,6 +7,7 @@ use Rattle.lru_clock.specs.Orders.{OrderOf}
 use Rattle.lru_clock.specs.SeatChanges.{AddsVacant, Reserves, VacatesAny, VacatesListed}
 use Rattle.lru_clock.specs.Seats.{Seat, seat}
 use Rattle.lru_clock.specs.declared.order.Looked.{Looked}
+use Rattle.lru_clock.proofs.FirstBits.{same_widened}
 use Rattle.lru_clock.proofs.Seating.Places.{set_again}
 
 module _ {K : Type 0} where
@@ -41,3 +42,6 @@ module _ {K : Type 0} where
     pub made_way : (b : Bool) (order new_order : OrderOf) (looks new_looks : List Looked) (leaver : Option X) → MakesRoom b wide new order new_order looks new_looks leaver → VacatesAny old new leaver
     made_way true order new_order looks new_looks leaver runs = vacated_by runs.place leaver runs.vacates
     made_way false order new_order looks new_looks leaver (is, ordered, looked, none) = subst (VacatesAny old new) (sym none) (subst (AddsVacant old) (sym is) added)
+
+-- neither the order nor the seats got room
+pub ruleset nothing_added = (same_widened, none_added)

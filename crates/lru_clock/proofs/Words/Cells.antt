@@ -2,9 +2,9 @@
 use Rattle.std.proofs.Common.{◌≡◌, ◌≢◌, ℕ, zero, suc, ◌+◌, ◌<◌, List, [], ◌∷◌, Some, map, length, set, refl, sym, ap, ◌∙◌, subst, arith}
 use Rattle.std.specs.Prelude.{slice_get}
 use Rattle.std.proofs.lemmas.List.{length-set}
-use Rattle.concurrent_lru.specs.Probing.Probes.{marks_of, mark_at, IsEmptyAt, IsFilledAt, IsReached}
+use Rattle.concurrent_lru.specs.Probing.Probes.{marks_of, mark_at, Ends, IsEmptyAt, IsFilledAt, IsReached}
 use Rattle.concurrent_lru.specs.Probing.Entries.{Holds, Has, AreApart, IsSame, Adds, Removes, count, entry}
-use Rattle.concurrent_lru.proofs.Probing.Fills.{Ends, fills}
+use Rattle.concurrent_lru.proofs.Probing.Fills.{fills}
 use Rattle.concurrent_lru.proofs.Probing.Contents.Slots.{holds_within, count_filled, count_emptied, some_empty}
 use Rattle.concurrent_lru.proofs.Probing.Contents.Changes.{same_refl, same_trans, removes_same, adds, adds_apart, removes, removes_apart, moves, moves_apart, moves_count}
 use Rattle.lru_clock.specs.Index.{HasWord, LacksWord, Rearranges, TakesOut, PutsIn}

@@ -240,7 +240,7 @@ impl<K: Hash + Eq + Clone + Drop, V: Drop, R: Wait, S: BuildHasher, F: Fit<K, V>
 }
 
 // Converts a refusal by a call that takes no stamp, and so never returns `Stale`.
-fn error_of<E>(refusal: Refusal) -> GetError<E>
+pub(super) fn error_of<E>(refusal: Refusal) -> GetError<E>
     requires { refusal ≢ Refusal.Stale }
     ensures not_init { IsNotInit result }
 {

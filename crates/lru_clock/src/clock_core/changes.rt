@@ -38,7 +38,7 @@ impl<K: Eq + Clone + Drop, V: Drop, F: Fit<K, V>> Core<K, V, F> {
     /// a `u64`, and that there is a vacant place, which is added if there is none.
     ///
     /// Returns `Overflow` if the sum does not, and `Memory` and `Overflow` as `Store::grow` does.
-    #[tactic(auto, using(crate::proofs::FirstBits::same_widened, crate::proofs::Seating::Vacant::none_added))]
+    #[tactic(auto, using(crate::proofs::Seating::Vacant::nothing_added))]
     pub fn admit(&self, state: &mut ShardState<K>, charge: u64) -> Result<(), Refusal>
         ensures never_stale { IfErr result (λ e. e ≢ Refusal.Stale) }
         ensures fits { IfOk result (λ _. sum_by (λ seat. seat.charge) state.old.seats + charge
@@ -202,6 +202,52 @@ impl<K: Eq + Clone + Drop, V: Drop, F: Fit<K, V>> Core<K, V, F> {
         self.store.slot(place)?.mark();
         let taken = self.store.take_invalidated(place)?;
         Some(state.vacate(taken, false))
+    }
+
+    /// Invalidates the entry at a place, if there is one, and removes it if nobody has pinned it.
+    pub fn invalidate_place(
+        &self,
+        state: &mut ShardState<K>,
+        place: u32,
+    ) -> Option<Left<'_, K, V, F>>
+        ensures book { IfSome result (λ l. l ≡ Some self.now.store.chronicle.first.book) }
+        ensures capacity { state.new.capacity ≡ state.old.capacity }
+        ensures makings { state.new.makings ≡ state.old.makings }
+    {
+        state.seats.unlist(place);
+        self.store.slot(place)?.mark();
+        let taken = self.store.take_invalidated(place)?;
+        Some(state.vacate(taken, false))
+    }
+
+    /// Does what `invalidate_place` does, if the entry's key finds it and `keep` returns `false`
+    /// for its key, its value and its charge.
+    pub fn retain_place<G>(
+        &self,
+        state: &mut ShardState<K>,
+        place: u32,
+        keep: &mut G,
+    ) -> Option<Left<'_, K, V, F>>
+    where
+        G: FnMut(&K, &V, u64) -> bool,
+        requires callable { (f : G) (k : _) (v : _) (charge : _)
+            → F.fits k.now v.now → G.pre f k v charge }
+        ensures book { IfSome result (λ l. l ≡ Some self.now.store.chronicle.first.book) }
+        ensures capacity { state.new.capacity ≡ state.old.capacity }
+        ensures makings { state.new.makings ≡ state.old.makings }
+    {
+        let charge = state.seats.charge_at(place);
+        let mut judge = |key: &K, value: &V, charge: u64, _: u32| -> bool
+            requires { G.pre keep.now key value charge }
+        { keep(key, value, charge) };
+        let is_kept = self
+            .store
+            .slot(place)?
+            .visit(self.most_pins, charge, &mut judge)?;
+        if is_kept {
+            return None;
+        }
+        self.invalidate_place(state, place)
     }
 
     /// Evicts the entry at a place if nobody has pinned it.

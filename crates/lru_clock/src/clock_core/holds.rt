@@ -1,4 +1,5 @@
-//! Holds of entries: lookups without the lock by callers that cannot keep a pin.
+//! Holds of entries: lookups without the lock by callers that cannot keep a pin. Each hold is
+//! returned as a debt (`HoldAt`), which a caller in C then has as a number.
 ghost use Rattle.std.specs.Prelude.{◌≡◌, ◌≢◌, false, None, IfErr, IfOk, MatchOption};
 ghost use Rattle.std.specs.List.{list_any};
 ghost use Rattle.std.proofs.Math.ListN.{set};
@@ -11,25 +12,25 @@ ghost use Rattle.lru_clock.specs.Ways.{IfHeld};
 use crate::clock_core::Core;
 use crate::clock_core::replacements::Way;
 use crate::shard_state::ShardState;
-use crate::store::{Left, PinAt, Released};
+use crate::store::{HoldAt, Left, Released};
 use concurrent_lru::fit::Fit;
 use concurrent_lru::sharded::Refusal;
 
 /// What an insert of a caller that cannot keep a pin did, if it was not refused.
 pub enum HeldOver<'a, K: Eq, V, F: Fit<K, V>> {
-    /// The new entry was stored at this place and held, and this entry has left, if one has.
-    Held(u32, Option<Left<'a, K, V, F>>),
+    /// The new entry was stored and held, and this entry has left, if one has.
+    Held(HoldAt, Option<Left<'a, K, V, F>>),
     /// Nothing was stored: this entry has left, and another has to leave first.
     Blocked(Left<'a, K, V, F>),
 }
 
 impl<K: Eq + Clone + Drop, V: Copy + Drop, F: Fit<K, V>> Core<K, V, F> {
-    /// Holds the key's entry without the lock, gives it another chance, and returns its place and
-    /// its value. It may miss an entry while the index is being written.
+    /// Holds the key's entry without the lock, gives it another chance, and returns its value with
+    /// the hold. It may miss an entry while the index is being written.
     ///
     /// Returns `Overflow` if an entry of this tag has the maximum number of holds or pins.
     #[inline(always)]
-    pub fn hold(&self, tag: u32, key: &K) -> Result<Option<(u32, V)>, Refusal>
+    pub fn hold(&self, tag: u32, key: &K) -> Result<Option<(HoldAt, V)>, Refusal>
         ensures { IfErr result (λ e. e ≡ Refusal.Overflow) }
     {
         let Some(index) = self.store.index() else {
@@ -41,8 +42,8 @@ impl<K: Eq + Clone + Drop, V: Copy + Drop, F: Fit<K, V>> Core<K, V, F> {
                 return Ok(None);
             };
             if let Some(slot) = self.store.slot(place) {
-                if let Some(value) = slot.hold(key)? {
-                    return Ok(Some((place, value)));
+                if let Some(found) = slot.hold(place, key)? {
+                    return Ok(Some(found));
                 }
             }
         }
@@ -57,33 +58,30 @@ impl<K: Eq + Clone + Drop, V: Copy + Drop, F: Fit<K, V>> Core<K, V, F> {
         state: &mut ShardState<K>,
         tag: u32,
         key: &K,
-    ) -> Result<Option<(u32, V)>, Refusal>
+    ) -> Result<Option<(HoldAt, V)>, Refusal>
         ensures same { state.new ≡ state.old }
         ensures refused { IfErr result (λ e. e ≡ Refusal.Overflow) }
     {
         let Some((place, slot)) = self.listed(state, tag, key) else {
             return Ok(None);
         };
-        match slot.hold(key)? {
-            Some(value) => Ok(Some((place, value))),
-            None => Ok(None),
-        }
+        slot.hold(place, key)
     }
 
-    /// Holds the entry at a place, even an invalidated one, and returns its value.
+    /// Holds the entry at a place, even an invalidated one, and returns its value with the hold.
     ///
     /// Returns `Overflow` if the entry has the maximum number of holds or pins.
-    pub fn hold_at(&self, place: u32) -> Result<Option<V>, Refusal>
+    pub fn hold_at(&self, place: u32) -> Result<Option<(HoldAt, V)>, Refusal>
         ensures { IfErr result (λ e. e ≡ Refusal.Overflow) }
     {
         match self.store.slot(place) {
-            Some(slot) => slot.hold_any(),
+            Some(slot) => slot.hold_any(place),
             None => Ok(None),
         }
     }
 
-    /// Ends a hold of the entry at a place, and returns the state of the entry afterwards. Returns
-    /// `None` if there is no hold.
+    /// Ends a hold of the entry at a place, which `HoldAt::into_place` returned, and returns the
+    /// state of the entry afterwards. Returns `None` if there is no hold.
     #[inline(always)]
     pub fn end_hold(&self, place: u32) -> Option<Released> {
         self.store.slot(place)?.end_hold()
@@ -106,8 +104,8 @@ impl<K: Eq + Clone + Drop, V: Copy + Drop, F: Fit<K, V>> Core<K, V, F> {
         }
     }
 
-    /// Stores a value for a key of which the index has no entry, holds the entry, and returns its
-    /// place. Later callers wait for no making of the key.
+    /// Stores a value for a key of which the index has no entry, and returns a hold of the entry.
+    /// Later callers wait for no making of the key.
     ///
     /// Returns `Memory` if a copy of the key is refused, and `Memory` and `Overflow` as `put` does.
     pub fn hold_new(
@@ -117,7 +115,7 @@ impl<K: Eq + Clone + Drop, V: Copy + Drop, F: Fit<K, V>> Core<K, V, F> {
         key: &K,
         charge: u64,
         value: V,
-    ) -> Result<u32, Refusal>
+    ) -> Result<HoldAt, Refusal>
         requires fits { F.fits key.now value }
         ensures unmade { IfOk result (λ _.
             list_any (is_of K.eq key.now) state.new.makings ≡ false) }
@@ -125,14 +123,14 @@ impl<K: Eq + Clone + Drop, V: Copy + Drop, F: Fit<K, V>> Core<K, V, F> {
         ensures charged { IfOk result
             (λ place. Charges charge place state.old.seats state.new.seats) }
     {
-        let place = self.hold_entry(state, tag, key, charge, value, None, true)?;
+        let hold = self.hold_entry(state, tag, key, charge, value, None, true)?;
         state.makings.invalidate(key);
         state.counts.insertions = state.counts.insertions.wrapping_add(1);
-        Ok(place)
+        Ok(hold)
     }
 
-    /// Stores a value in place of the key's entry, holds the new entry, and returns its place with
-    /// the entry that has left, if one has. Makes way first, as `make_way` does: if it is blocked,
+    /// Stores a value in place of the key's entry, and returns a hold of the new entry with the
+    /// entry that has left, if one has. Makes way first, as `make_way` does: if it is blocked,
     /// nothing is stored. Later callers wait for no making of the key after the value was stored.
     ///
     /// Returns `Memory` if a copy of the key is refused, and `Memory`, `Overflow` and `Full` as
@@ -166,14 +164,7 @@ impl<K: Eq + Clone + Drop, V: Copy + Drop, F: Fit<K, V>> Core<K, V, F> {
             state, tag, key, charge, kept, key_copy, evicted, is_strict,
         );
         match stored {
-            Ok(PinAt { place, pin }) => {
-                // Never refused: nobody else has held the new entry.
-                let _ = self.hold_at(place);
-                let _ = pin.release();
-                state.makings.invalidate(key);
-                state.counts.insertions = state.counts.insertions.wrapping_add(1);
-                Ok(HeldOver::Held(place, left))
-            }
+            Ok(found) => Ok(HeldOver::Held(found.into_hold(), left)),
             Err((refusal, refused)) => {
                 drop(refused.into_parts());
                 match left {
@@ -185,8 +176,8 @@ impl<K: Eq + Clone + Drop, V: Copy + Drop, F: Fit<K, V>> Core<K, V, F> {
     }
 
     /// Stores a value, which was made under a ticket of this number, or which begins to be made by
-    /// this call if there is none. Holds the entry, and returns its place. If the index is not to
-    /// have the entry, it is already invalidated, and only this caller gets it.
+    /// this call if there is none, and returns a hold of the entry. If the index is not to have the
+    /// entry, it is already invalidated, and only this caller gets it.
     ///
     /// Returns `Memory` and `Overflow` as `hold_new` does.
     pub(crate) fn hold_entry(
@@ -198,7 +189,7 @@ impl<K: Eq + Clone + Drop, V: Copy + Drop, F: Fit<K, V>> Core<K, V, F> {
         value: V,
         ticket: Option<u64>,
         is_listed: bool,
-    ) -> Result<u32, Refusal>
+    ) -> Result<HoldAt, Refusal>
         requires fits { F.fits key.now value }
         ensures never_stale { IfErr result (λ e. e ≢ Refusal.Stale) }
         ensures charged { IfOk result
@@ -219,17 +210,12 @@ impl<K: Eq + Clone + Drop, V: Copy + Drop, F: Fit<K, V>> Core<K, V, F> {
         if let Some(left) = left {
             drop(left.into_parts());
         }
-        let PinAt { place, pin } = match stored {
-            Ok(found) => found,
+        match stored {
+            Ok(found) => Ok(found.into_hold()),
             Err((refusal, refused)) => {
                 drop(refused.into_parts());
-                return Err(refusal);
+                Err(refusal)
             }
-        };
-        // Never refused: nobody else has held the new entry.
-        let held = self.hold_at(place);
-        let _ = pin.release();
-        held?;
-        Ok(place)
+        }
     }
 }

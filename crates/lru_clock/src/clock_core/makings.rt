@@ -10,6 +10,7 @@ ghost use Rattle.lru_clock.specs.SeatChanges.{Charges};
 use crate::clock_core::Core;
 use crate::makings::{Ended, Ticket};
 use crate::shard_state::ShardState;
+use crate::store::HoldAt;
 use concurrent_lru::fit::Fit;
 use concurrent_lru::sharded::Refusal;
 
@@ -19,8 +20,8 @@ pub enum Begun<V> {
     Make(u64),
     /// Wait until a making ends, and call again: another caller makes the value.
     Wait,
-    /// Nothing: the key has an entry at this place, with this value, which was held.
-    Hit(u32, V),
+    /// Nothing: the key has an entry with this value, which was held.
+    Hit(HoldAt, V),
 }
 
 impl<K: Eq + Clone + Drop, V: Drop, F: Fit<K, V>> Core<K, V, F> {
@@ -93,8 +94,8 @@ impl<K: Eq + Clone + Drop, V: Copy + Drop, F: Fit<K, V>> Core<K, V, F> {
         ensures begun { IfOk result (λ begun. IsBegun K.eq key.now state.old begun state.new) }
         ensures refused { IfErr result (λ e. (e ≢ Refusal.Stale) × (state.new ≡ state.old)) }
     {
-        if let Some((place, value)) = self.hold_listed(state, tag, key)? {
-            return Ok(Begun::Hit(place, value));
+        if let Some((hold, value)) = self.hold_listed(state, tag, key)? {
+            return Ok(Begun::Hit(hold, value));
         }
         match self.start(state, key, charge)? {
             Some(ticket) => Ok(Begun::Make(ticket.into_number())),
@@ -102,8 +103,8 @@ impl<K: Eq + Clone + Drop, V: Copy + Drop, F: Fit<K, V>> Core<K, V, F> {
         }
     }
 
-    /// Ends the making with a number, stores its value, holds the entry, and returns its place. If
-    /// the making was invalidated, so is the entry, and only this caller gets it. Returns `None` if
+    /// Ends the making with a number, stores its value, and returns a hold of the entry. If the
+    /// making was invalidated, so is the entry, and only this caller gets it. Returns `None` if
     /// there is no such making.
     ///
     /// Returns `Memory` and `Overflow` as `hold_new` does. The making then counts as failed.
@@ -114,7 +115,7 @@ impl<K: Eq + Clone + Drop, V: Copy + Drop, F: Fit<K, V>> Core<K, V, F> {
         tag: u32,
         charge: u64,
         value: V,
-    ) -> Result<Option<u32>, Refusal>
+    ) -> Result<Option<HoldAt>, Refusal>
         requires fits { (key : K) → F.fits key value }
         ensures made { IfOk result (λ place. MatchOption place
             ((has_number number state.old.makings ≡ false) × (state.new ≡ state.old))
@@ -129,9 +130,9 @@ impl<K: Eq + Clone + Drop, V: Copy + Drop, F: Fit<K, V>> Core<K, V, F> {
             Ended::Unknown => return Ok(None),
         };
         match self.hold_entry(state, tag, &key, charge, value, Some(number), is_listed) {
-            Ok(place) => {
+            Ok(hold) => {
                 state.counts.makings = state.counts.makings.wrapping_add(1);
-                Ok(Some(place))
+                Ok(Some(hold))
             }
             Err(refusal) => {
                 state.counts.failures = state.counts.failures.wrapping_add(1);

@@ -1,9 +1,11 @@
 //! Entries that are stored in place of the key's.
 //!
 //! The key's entry leaves last, so that a new entry that is refused leaves it as it was.
-ghost use Rattle.std.specs.Prelude.{◌≡◌, ◌≢◌, true, None, Some, IfErr, IfNone, IfOk, IfSome};
-ghost use Rattle.std.specs.Prelude.{MatchOption, MatchResult, is_some};
+ghost use Rattle.std.specs.Prelude.{◌≡◌, ◌≢◌, false, true, None, Some, IfErr, IfNone, IfOk};
+ghost use Rattle.std.specs.Prelude.{IfSome, MatchOption, MatchResult, is_some};
+ghost use Rattle.std.specs.List.{list_any};
 ghost use Rattle.lru_clock.specs.Evictions.{IsWithin};
+ghost use Rattle.lru_clock.specs.Makings.{is_of, Marks};
 ghost use Rattle.lru_clock.specs.SeatChanges.{AddsVacant, Charges, ChargesOver, KeepsCharges};
 ghost use Rattle.lru_clock.specs.SeatChanges.{IsUnlisted, LeavesAnyOther, VacatesAny};
 ghost use Rattle.lru_clock.specs.SeatChanges.{VacatesListed};
@@ -88,7 +90,8 @@ impl<K: Eq + Clone + Drop, V: Drop, F: Fit<K, V>> Core<K, V, F> {
 
     /// Stores an entry in place of the key's, and pins it. `evicted` is an entry that has just left
     /// to make way, so that there is room and the key has no entry. Returns the entry that has
-    /// left, if one has.
+    /// left, if one has. If the entry was stored, it counts as inserted, and later callers wait for
+    /// no making of the key.
     ///
     /// Returns `Memory`, `Overflow` and `Full` as `replace` does, with the entry that was refused.
     pub fn store_over<'a>(
@@ -125,9 +128,13 @@ impl<K: Eq + Clone + Drop, V: Drop, F: Fit<K, V>> Core<K, V, F> {
         ensures left { IfSome evicted.entry (λ _. is_some result.1 ≡ true) }
         ensures refused { IfErr result.0
             (λ _. IfNone result.1 (AddsVacant state.old.seats state.new.seats)) }
-        ensures makings { state.new.makings ≡ state.old.makings }
+        ensures marked { IfOk result.0
+            (λ _. Marks K.eq key.now state.old.makings state.new.makings) }
+        ensures unmade { IfOk result.0
+            (λ _. list_any (is_of K.eq key.now) state.new.makings ≡ false) }
+        ensures makings { IfErr result.0 (λ _. state.new.makings ≡ state.old.makings) }
     {
-        match evicted {
+        let (stored, left) = match evicted {
             Some(evicted) => {
                 let mut left = Some(evicted);
                 let copy = Some(key_copy);
@@ -137,7 +144,12 @@ impl<K: Eq + Clone + Drop, V: Drop, F: Fit<K, V>> Core<K, V, F> {
                 (stored, left)
             }
             None => self.replace(state, tag, key, charge, kept, key_copy, is_strict),
+        };
+        if stored.is_ok() {
+            state.makings.invalidate(key);
+            state.counts.insertions = state.counts.insertions.wrapping_add(1);
         }
+        (stored, left)
     }
 
     /// Stores an entry in place of the key's, and pins it. The key's entry leaves if nobody has

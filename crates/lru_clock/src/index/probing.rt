@@ -1,9 +1,8 @@
 //! Linear probing under the lock: a word is at its home or after it, and no word in between is 0.
 ghost use Rattle.std.specs.Prelude.{◌≡◌, ◌≢◌, ℕ, ◌<◌, length, slice_set, MatchOption};
 ghost use Rattle.concurrent_lru.specs.Probing.Cycle.{next_of as next_in};
-ghost use Rattle.concurrent_lru.specs.Probing.Probes.{mark_at, HasEmpty, IsFilledAt, IsReached};
+ghost use Rattle.concurrent_lru.specs.Probing.Probes.{mark_at, Ends, HasEmpty, IsFilledAt, IsReached};
 ghost use Rattle.concurrent_lru.specs.Probing.Gaps.{IsGap};
-ghost use Rattle.concurrent_lru.proofs.Probing.Fills.{Ends};
 ghost use Rattle.lru_clock.specs.Index.{AreOnce, Rearranges, HasWord, LacksWord, PutsIn, TakesOut};
 
 use crate::index::Words;

@@ -64,15 +64,18 @@ impl Bits {
         }
     }
 
-    /// Clears the bit of a place.
-    pub fn remove(&mut self, place: u32)
-        ensures { self.new ≡ without_bit self.old place }
+    /// Clears the bit of a place, and returns whether it was set.
+    pub fn remove(&mut self, place: u32) -> bool
+        ensures was { result ≡ has_bit self.old place }
+        ensures cleared { self.new ≡ without_bit self.old place }
     {
-        if self.has(place) {
+        let is_set = self.has(place);
+        if is_set {
             if let Some(word) = self.words.get_mut(place as usize / 64) {
                 *word ^= 1 << (place % 64);
             }
         }
+        is_set
     }
 
     /// Returns the first place from `from` on whose bit is set. After the last place comes the

@@ -8,7 +8,7 @@ use crate::clock_core::{Invalidated, Way};
 use crate::history::past::Past;
 use crate::makings::{Ended, Ticket};
 use crate::shard::Shard;
-use crate::store::{Looks, PinAt};
+use crate::store::{Hold, Looks, PinAt, Released};
 use concurrent_lru::fit::Fit;
 use concurrent_lru::sharded::Refusal;
 use std::hash::Hash;
@@ -149,10 +149,6 @@ impl<K: Hash + Eq + Clone + Drop, V: Drop, F: Fit<K, V>> Shard<K, V, F> {
             let (stored, left) = self.core.store_over(
                 &mut guard, tag, key, charge, kept, key_copy, evicted, is_strict,
             );
-            if stored.is_ok() {
-                guard.makings.invalidate(key);
-                guard.counts.insertions = guard.counts.insertions.wrapping_add(1);
-            }
             self.wake(&guard);
             self.unlock(guard, left);
             return match stored {
@@ -199,6 +195,40 @@ impl<K: Hash + Eq + Clone + Drop, V: Drop, F: Fit<K, V>> Shard<K, V, F> {
         self.wake(&guard);
         self.unlock(guard, left);
         invalidated
+    }
+
+    /// Invalidates every key that has a making or an entry. Those that come meanwhile may stay.
+    pub fn clear<R: Wait>(&self, rt: &R) {
+        let mut guard = self.lock(rt);
+        // A making that ends before this has an entry, at one of the places that follow.
+        guard.makings.invalidate_all();
+        let places = guard.seats.places();
+        self.wake(&guard);
+        self.unlock(guard, None);
+        for place in 0..places {
+            let mut guard = self.lock(rt);
+            let left = self.core.invalidate_place(&mut guard, place);
+            self.unlock(guard, left);
+        }
+    }
+
+    /// Invalidates each entry that its key finds and for which `keep` returns `false`.
+    pub fn retain<R: Wait, G>(&self, rt: &R, keep: &mut G)
+    where
+        G: FnMut(&K, &V, u64) -> bool,
+        requires callable { (f : G) (k : _) (v : _) (charge : _)
+            → F.fits k.now v.now → G.pre f k v charge }
+    {
+        let guard = self.lock(rt);
+        let places = guard.seats.places();
+        self.unlock(guard, None);
+        for place in 0..places {
+            let mut guard = self.lock(rt);
+            let left = self.core.retain_place(&mut guard, place, keep);
+            self.unlock(guard, left);
+        }
+        // The pins under which `keep` looked at entries may have kept them from being evicted.
+        self.settle_if_above();
     }
 
     /// Evicts the key's entry, whatever its chances, if nobody has pinned it.
@@ -262,6 +292,18 @@ impl<K: Hash + Eq + Clone + Drop, V: Drop, F: Fit<K, V>> Shard<K, V, F> {
         let grown = self.core.grow_to(&mut guard, entries);
         self.unlock(guard, None);
         grown
+    }
+
+    /// Ends a hold. Then does what the drop of a handle does.
+    pub fn end_hold<R: Wait>(&self, rt: &R, hold: Hold<K, V, F>)
+        requires book { hold.book ≡ self.now.core.store.chronicle.first.book }
+    {
+        let place = hold.place();
+        match self.core.store.end_hold(hold) {
+            Some(Released::Idle) => self.settle_if_above(),
+            Some(Released::Invalidated) => self.take_invalidated(rt, place),
+            Some(Released::Pinned) | None => {}
+        }
     }
 
     /// Removes an invalidated entry whose last pin was released.

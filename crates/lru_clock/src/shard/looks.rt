@@ -7,7 +7,7 @@ ghost use Rattle.lru_clock.specs.Turns.{IfHit};
 use crate::history::past::Past;
 use crate::shard::{Shard, Turn};
 use crate::shard_state::{Counts, Numbers, ShardState};
-use crate::store::PinAt;
+use crate::store::{Hold, PinAt};
 use concurrent_lru::fit::Fit;
 use concurrent_lru::sharded::Refusal;
 use std::hash::Hash;
@@ -253,6 +253,17 @@ impl<K: Hash + Eq + Clone + Drop, V: Drop, F: Fit<K, V>> Shard<K, V, F> {
         let mut guard = self.made.wait(rt, guard);
         guard.makings.remove_waiting();
         guard
+    }
+
+    /// Holds the entry of a hold once more.
+    ///
+    /// Returns `Overflow` if the entry has the maximum number of holds.
+    pub fn hold_again(&self, hold: &Hold<K, V, F>) -> Result<Hold<K, V, F>, Refusal>
+        requires book { hold.now.book ≡ self.now.core.store.chronicle.first.book }
+        ensures hold { IfOk result (λ h. h ≡ hold.now) }
+        ensures refused { IfErr result (λ e. e ≡ Refusal.Overflow) }
+    {
+        self.core.store.hold_again(hold, self.core.most_pins)
     }
 
     /// Returns whether the key has an entry.

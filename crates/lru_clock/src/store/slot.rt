@@ -31,9 +31,10 @@
 //! - a pin more and perhaps a chance, only in `PRESENT`, by a compare-exchange: a hit, a comparison
 //!   of keys, or a visit;
 //! - a pin more by a caller that has one, in `PRESENT` or `MARKED`, by a compare-exchange: a clone;
+//! - a hold more or less, in `PRESENT` or `MARKED`, by a compare-exchange: `holds` says by whom;
 //! - a chance less, by a compare-exchange, after a comparison of keys that differ;
 //! - a pin less, by a subtraction: whoever has the pin gives it back.
-ghost use Rattle.std.specs.Prelude.{◌≡◌, ◌≢◌, ◌<◌, ◌%◌, IfErr, IfOk, IfSome, IsTrue};
+ghost use Rattle.std.specs.Prelude.{◌≡◌, ◌≢◌, ◌<◌, ◌%◌, ◌/◌, IfErr, IfOk, IfSome, IsTrue};
 ghost use Rattle.std.specs.Prelude.{MatchOption};
 ghost use Rattle.lru_slot.specs.Words.{readers, Gains, IsTurn};
 ghost use Rattle.lru_clock.specs.Hits.{Sees};
@@ -51,6 +52,7 @@ use crate::history::{Chronicle, Log};
 use crate::order::{Cost, Look};
 pub use crate::store::slot::claimed::{Claimed, Taken};
 use crate::store::slot::content::Content;
+pub use crate::store::slot::holds::{Hold, HoldAt};
 use concurrent_lru::fit::{Anything, Fit};
 use concurrent_lru::sharded::Refusal;
 use concurrent_lru::shown::Shown;
@@ -161,6 +163,12 @@ fn pins_of(word: u64) -> u64
     ensures { result ≡ readers word }
 {
     word % ONE_CHANCE / ONE_READER
+}
+
+fn holds_of(word: u64) -> u64
+    ensures { result ≡ word / 17179869184 }
+{
+    word / ONE_HOLD
 }
 
 // Returns whether somebody has pinned or holds the entry of a slot with this word.
@@ -311,10 +319,11 @@ impl<K: Eq + Drop, V: Drop, F: Fit<K, V>> Slot<K, V, F> {
     }
 
     /// Calls `f` with the entry if it is present: with its key, its value, this charge and the
-    /// number of its pins. The entry is pinned meanwhile, and gets no chance.
-    pub fn visit<G>(&self, most_pins: u64, charge: u64, f: &mut G)
+    /// number of its pins and holds. Returns what `f` does. The entry is pinned meanwhile, and gets
+    /// no chance.
+    pub fn visit<T, G>(&self, most_pins: u64, charge: u64, f: &mut G) -> Option<T>
     where
-        G: FnMut(&K, &V, u64, u32),
+        G: FnMut(&K, &V, u64, u32) -> T,
         requires limit { most_pins < 1073741823 }
         requires callable { (state : G) (k : _) (v : _) (charge pins : _)
             → F.fits k.now v.now → G.pre state k v charge pins }
@@ -322,7 +331,7 @@ impl<K: Eq + Drop, V: Drop, F: Fit<K, V>> Slot<K, V, F> {
         let mut seen = self.cell.load();
         for _ in 0..u64::MAX {
             if state_of(seen) != PRESENT {
-                return;
+                return None;
             }
             let pins = pins_of(seen);
             // There is one more pin than the maximum while another caller compares the key.
@@ -332,15 +341,22 @@ impl<K: Eq + Drop, V: Drop, F: Fit<K, V>> Slot<K, V, F> {
             }
             let (found, claim) = self.cell.turn(seen, seen + ONE_READER);
             if found == seen {
-                if let Content::Entry { kept, .. } = claim.get() {
-                    f(&kept.key, &kept.value, charge, pins as u32);
-                }
+                let told = match claim.get() {
+                    Content::Entry { kept, .. } => Some(f(
+                        &kept.key,
+                        &kept.value,
+                        charge,
+                        (pins + holds_of(seen)) as u32,
+                    )),
+                    Content::Empty => None,
+                };
                 claim.leave();
-                return;
+                return told;
             }
             claim.done();
             seen = found;
         }
+        None
     }
 
     /// Claims a free slot, which is about to get an entry. Returns `None` if the slot is not free.

@@ -1,5 +1,5 @@
 -- Sums over views, and receipts by their positions.
-use Rattle.std.proofs.Common.{◌≡◌, ◌≢◌, ◌==◌, ◌<◌, ◌≤◌, ℕ, zero, suc, ◌+◌, ◌-◌, List, [], ◌∷◌, ◌++◌, length, length-append, append_assoc, get_or, set, Some, Bool, true, false, eq-eqb, ne_eqb, refl, sym, ap, ◌∙◌, subst, arith}
+use Rattle.std.proofs.Common.{◌≡◌, ◌≢◌, ◌==◌, ◌≤◌, ℕ, zero, suc, ◌+◌, ◌-◌, List, [], ◌∷◌, ◌++◌, length, length-append, get_or, set, Some, Bool, true, false, eq-eqb, ne_eqb, refl, sym, ap, ◌∙◌, subst, arith}
 use Rattle.std.specs.Prelude.{slice_get, if◌then◌else◌}
 use Rattle.std.proofs.lemmas.Option.{slice_get_within}
 use Rattle.std.proofs.Math.Seq.{get_or-append_seam}
@@ -134,22 +134,3 @@ module _ {A : Type 0} where
 
   pub last_is : (all xs : List A) (r x : A) → xs ≡ all ++ r ∷ [] → x ≡ get_or xs (length xs - 1) x → x ≡ r
   last_is all xs r x e is = is ∙ ((λ i. get_or (e i) (sym (count_last all xs r e) i) x) ∙ get_or-append_seam all r [] x)
-
-  -- the last two of a list
-  pub count_two : (all xs : List A) (r s : A) → xs ≡ all ++ r ∷ s ∷ [] → length all ≡ length xs - 2
-  count_two all xs r s e = let n : length xs ≡ length (all ++ r ∷ s ∷ []) = ap length e in omega (arith, n, length-append all (r ∷ s ∷ []))
-
-  pub first_of_two : (all xs : List A) (r s x : A) → xs ≡ all ++ r ∷ s ∷ [] → x ≡ get_or xs (length xs - 2) x → x ≡ r
-  first_of_two all xs r s x e is = is ∙ ((λ i. get_or (e i) (sym (count_two all xs r s e) i) x) ∙ get_or-append_seam all r (s ∷ []) x)
-
-  pub second_of_two : (all xs : List A) (r s x : A) → xs ≡ all ++ r ∷ s ∷ [] → x ≡ get_or xs (length xs - 2 + 1) x → x ≡ s
-  second_of_two all xs r s x e is =
-      let n : length xs ≡ length (all ++ r ∷ s ∷ []) = ap length e in
-      let at : length xs - 2 + 1 ≡ length xs - 1 = omega (arith, n, length-append all (r ∷ s ∷ [])) in
-      last_is (all ++ r ∷ []) xs s x (e ∙ sym (append_assoc all (r ∷ []) (s ∷ []))) (is ∙ ap (λ n. get_or xs n x) at)
-
-module _ {A : Type 0} where
-  -- a new position is past the last that was gained
-  pub past_last : (c n : ℕ) (xs : List (ℕ × A)) (r : A) → AllBelow c (xs ++ (n, r) ∷ []) → n < c
-  past_last c n [] r p = p.0
-  past_last c n (x ∷ xs) r p = past_last c n xs r p.1

@@ -166,10 +166,3 @@ module _ {K : Type 0} where
       let records : now.all ≡ all = ap (λ (v : View K). v.all) took ∙ ap (λ (v : View K). v.all) knows in
       let receipts : now.receipts ≡ tally.receipts = ap (λ (v : View K). v.receipts) took ∙ ap (λ (l : List (ℕ × Record K)). l ++ mine.receipts) (ap (λ (v : View K). v.receipts) knows) ∙ ap (λ (v : View K). v.receipts) is in
       subst (λ (y : List (Record K) × List (ℕ × Record K)). AreExactly y.0 y.1) (λ i. (records i, receipts i)) told.1
-
-  -- what the pass of all records knows after another record, where it knew all before
-  pub knows_more : (records_pass : View K) (before after : List (Record K)) (r : Record K) → records_pass ≡ knower before → after ≡ before ++ r ∷ [] → after ≡ records_pass.all ++ r ∷ []
-  knows_more records_pass before after r knows e = e ∙ ap (λ (l : List (Record K)). l ++ r ∷ []) (sym (ap (λ (v : View K). v.all) knows))
-
-  pub knower_of : (records_pass : View K) (before : List (Record K)) → records_pass ≡ knower before → records_pass ≡ knower records_pass.all
-  knower_of records_pass before knows = knows ∙ sym (ap (λ (v : View K). knower v.all) knows)

@@ -23,6 +23,8 @@ module _ {K V : Type 0} where
   hit_by (ask.begin_strictly k c) t = refl
   hit_by (ask.poll s) t = refl
   hit_by (ask.ready s v) t = refl
+  hit_by (ask.ready_with s v c) t = refl
+  hit_by (ask.ready_with_strictly s v c) t = refl
   hit_by (ask.fail s) t = refl
   hit_by (ask.get k) t = refl
   hit_by (ask.release s) t = refl

@@ -10,7 +10,7 @@ use Rattle.std.specs.FinMap.Entries.{is_sorted, below_all}
 use Rattle.std.specs.FinMap.Entries.{find as find_entry}
 use Rattle.std.proofs.lemmas.Option.{same_Some, none-some}
 use Rattle.concurrent_lru.specs.Cache.{Cache, Idle, Held, Phase, making, untaken, ready, charges, pinned_of, sum_of, HasCapacityFor, IsFront, Suffices, Settles, held_at, idle_at, IsFound}
-use Rattle.concurrent_lru.specs.Steps.{IsAbsent, Holds, Makes, Joins, Revives, Hits, ChangesPhase, Leaves, Removes, Rests, Stays, Drops, Ends, Departs, PinsAgain, ReleasesAndEvicts, Repins, Detaches, IsUnready, IsNotIdle, Releases, Invalidates, Stores, Renews, Step, with_held, without, without_held}
+use Rattle.concurrent_lru.specs.Steps.{IsAbsent, Holds, Makes, Joins, Revives, Hits, ChangesPhase, Charges, Leaves, Removes, Rests, Stays, Drops, Ends, Departs, PinsAgain, ReleasesAndEvicts, Repins, Detaches, IsUnready, IsNotIdle, Releases, Invalidates, Stores, Renews, Step, with_held, held_in_phase, held_with_charge, without, without_held}
 use Rattle.concurrent_lru.specs.Request as ask
 use Rattle.concurrent_lru.specs.Request.{Request}
 use Rattle.concurrent_lru.specs.Reply as say
@@ -209,6 +209,14 @@ module _ {K V W : Type 0} (f : V → W) where
       none = ap (map (idle_by f)) h.none;
     }
 
+    charges_of_making_by : (old : Cache K V) (s : ℕ) (v : V) (charge : ℕ) (out : List (Idle K V)) (new : Cache K V) → Charges E old s v charge out new → Charges E (cache_by f old) s (f v) charge (map (idle_by f) out) (cache_by f new)
+    charges_of_making_by old s v charge out new h = record {
+      entry = held_by f h.entry;
+      holds = holds_by old s h.entry making h.holds;
+      fits = subst (λ n. n + charge < 2 ^ 64 + h.entry.charge) (sym (sum_by_same old)) h.fits;
+      settles = subst (λ c. Settles c (map (idle_by f) out) (cache_by f new)) (held_on old s (held_in_phase (ready v) (held_with_charge charge h.entry)) refl) (settles_by _ out new h.settles);
+    }
+
     leaves_by : (old : Cache K V) (s : ℕ) (p q : Phase V) (out : List (Idle K V)) (new : Cache K V) → Leaves E old s p q out new → Leaves E (cache_by f old) s (phase_by f p) (phase_by f q) (map (idle_by f) out) (cache_by f new)
     leaves_by old s p q out new h = record {
       entry = held_by f h.entry;
@@ -330,6 +338,7 @@ module _ {K V W : Type 0} (f : V → W) where
     }
 
     pub step_by : (old : Cache K V) (r : Request K V) (p : Reply K V) (out : List (Idle K V)) (new : Cache K V) → Step E old r p out new → Step E (cache_by f old) (request_by f r) (reply_by f p) (map (idle_by f) out) (cache_by f new)
+    unfolding charges_of_making_by
     step_by old (ask.begin k c) (say.make s) out new (inl h) = inl (makes_by old k c s out new h)
     step_by old (ask.begin k c) (say.make s) out new (inr h) = inr (joins_by old k s untaken making out new h)
     step_by old (ask.begin k c) (say.wait s) out new h = joins_by old k s making making out new h
@@ -342,6 +351,8 @@ module _ {K V W : Type 0} (f : V → W) where
     step_by old (ask.poll s) (say.make t) out new h = (h.0, changes_phase_by old s untaken making out new h.1)
     step_by old (ask.poll s) (say.hit t v) out new h = (h.0, changes_phase_by old s (ready v) (ready v) out new h.1)
     step_by old (ask.ready s v) say.done out new h = changes_phase_by old s making (ready v) out new h
+    step_by old (ask.ready_with s v c) say.done out new h = charges_of_making_by old s v c out new h
+    step_by old (ask.ready_with_strictly s v c) say.done out new h = (charges_of_making_by old s v c out new h.0, subst (λ n. n + c ≤ old.capacity + h.0.entry.charge) (sym (pinned_by_same old)) h.1)
     step_by old (ask.fail s) say.left out new h = leaves_by old s making untaken out new h
     step_by old (ask.fail s) (say.removed k) out new h = removes_by old s k out new h
     step_by old (ask.get k) (say.hit s v) out new h = hits_by old k s v out new h

@@ -1,5 +1,6 @@
 //! Calls on all shards, one after another.
-ghost use Rattle.std.specs.Prelude.{◌≡◌, IfErr};
+ghost use Rattle.std.specs.Prelude.{◌≡◌, IfErr, vec_len};
+ghost use Rattle.concurrent_lru.specs.Visits.{CanJudge, CanVisit, VisitsShards};
 
 use crate::counts::Counts;
 use crate::fit::Fit;
@@ -37,6 +38,28 @@ impl<K: Hash + Eq + Clone + Drop, V: Drop, R: Wait, S: BuildHasher, F: Fit<K, V>
     pub fn prune(&self) {
         for shard in &self.routes.shards {
             shard.prune();
+        }
+    }
+
+    /// Invalidates every key, one shard after another, as the unsharded cache's `clear` does: no
+    /// later call finds what a key had when the call began. An entry that other callers add
+    /// meanwhile may stay or leave. Takes no memory.
+    pub fn clear(&self) {
+        for shard in &self.routes.shards {
+            shard.clear();
+        }
+    }
+
+    /// Invalidates the key of each entry for which `keep` returns `false`, one shard after another,
+    /// as the unsharded cache's `retain` does. `keep` runs under a lock. It should be short, and
+    /// must not use this cache, since such a call could deadlock. Takes no memory.
+    pub fn retain<G>(&self, mut keep: G)
+    where
+        G: FnMut(&K, &V, u64) -> bool + Drop,
+        requires { CanJudge F.fits G.FnMut keep }
+    {
+        for shard in &self.routes.shards {
+            shard.retain_by(&mut keep);
         }
     }
 
@@ -125,12 +148,15 @@ impl<K: Hash + Eq + Clone + Drop, V: Drop, R: Wait, S: BuildHasher, F: Fit<K, V>
     /// does. Takes no memory.
     ///
     /// The shards are visited one after another, each under its lock, so the entries need not all
-    /// have been there at any one moment. `f` should be short, and must not use this cache, since
-    /// such a call could deadlock.
+    /// have been there at any one moment; those of one shard were, and `f` sees each once
+    /// (`visits`). It should be short, and must not use this cache, since such a call could
+    /// deadlock.
     pub fn for_each<G>(&self, mut f: G)
     where
         G: FnMut(&K, &V, u64, u32) + Drop,
-        requires callable { G.IsAlwaysCallable f }
+        requires callable { CanVisit F.fits G.FnMut f }
+        ensures visits { (last : G)
+            × VisitsShards K.eq F.fits G.FnMut (vec_len self.now.routes.shards) f last }
     {
         for shard in &self.routes.shards {
             shard.for_each_by(&mut f);

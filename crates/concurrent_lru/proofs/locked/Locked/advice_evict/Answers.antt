@@ -3,7 +3,7 @@ use Rattle.concurrent_lru.proofs.Steps.ReadyValues.{advice_evict_kept}
 use Rattle.concurrent_lru.proofs.locked.Locked.advice_evict.Goals as goal
 
 pub evict-requires : goal.evict-requires
-evict-requires g c = can_count c.advice_evict-evicted.result c.self.invariant.counted.adds_up (advice_evicts {E = g.K.PartialEq.eq} _ _ _ _ c.self.invariant.counted.lawful c.advice_evict-evicted.ensures.step) c.len.ensures c.total.ensures.step.0
+evict-requires g c = can_count c.advice_evict-evicted.result c.self.invariant.counted (advice_evicts {E = g.K.PartialEq.eq} _ _ _ _ c.self.invariant.counted.lawful c.advice_evict-evicted.ensures.step) c.len.ensures c.total.ensures.step.0
 
 pub invariant_of-self : goal.invariant_of-self
 invariant_of-self g c = record {
@@ -12,4 +12,4 @@ invariant_of-self g c = record {
 }
 
 pub returns-clause-counted : goal.returns-clause-counted
-returns-clause-counted g c = rw c.of.ensures (counts_evicted c.advice_evict-evicted.result c.self.view_is c.self.invariant.counted.adds_up (advice_evicts {E = g.K.PartialEq.eq} _ _ _ _ c.self.invariant.counted.lawful c.advice_evict-evicted.ensures.step) c.evict.ensures c.len.ensures c.total.ensures.step.0)
+returns-clause-counted g c = rw c.of.ensures (counts_evicted c.advice_evict-evicted.result c.self.view_is c.self.invariant.counted (advice_evicts {E = g.K.PartialEq.eq} _ _ _ _ c.self.invariant.counted.lawful c.advice_evict-evicted.ensures.step) c.evict.ensures c.len.ensures c.total.ensures.step.0)

@@ -25,7 +25,7 @@ removes : (g : _) (c : In-Removed g) → Stands g.K.PartialEq.eq c.self.inside.s
 removes g c = subst (λ o. Stands g.K.PartialEq.eq c.self.inside.state.cache (ask.fail c.args.spot.now.stamp) (outcome_of_fail (Ok o)) c.fail_at.new.self.cache) c.in-Removed.is c.in_ok-fail_at.ensures.step
 
 owes : (g : _) (c : In-Removed g) → Owes c.fail_at.new.self.cache (one_failure c.self.inside.counts) 1 (held_charge c.self.inside.state.cache c.args.spot.now.stamp)
-owes g c = fail_owes {E = g.K.PartialEq.eq} c.self.inside.state.cache c.fail_at.new.self.cache c.self.inside.counts c.args.spot.now.stamp c.in-Removed.key [] c.self.invariant.counted.adds_up (removes g c)
+owes g c = fail_owes {E = g.K.PartialEq.eq} c.self.inside.state.cache c.fail_at.new.self.cache c.self.inside.counts c.args.spot.now.stamp c.in-Removed.key [] c.self.invariant.counted.lawful c.self.invariant.counted.adds_up (removes g c)
 
 pub remove-requires : goal.remove-requires
 remove-requires g c = can_remove (owes g (goal.at.remove-requires g c).In-Removed) c.fail-in-Removed.ensures c.total.ensures.step.0

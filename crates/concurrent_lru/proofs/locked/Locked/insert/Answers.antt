@@ -1,4 +1,4 @@
-use Rattle.std.proofs.Common.{◌≡◌, ap, subst, sym}
+use Rattle.std.proofs.Common.{◌≡◌, ap, refl, subst, sym}
 use Rattle.std.specs.Arc.{arc_value}
 use Rattle.concurrent_lru.specs.CountedCalls.{replaced}
 use Rattle.concurrent_lru.specs.Inserts.{Replaces}
@@ -10,10 +10,16 @@ use Rattle.concurrent_lru.proofs.locked.Locked.insert.Goals.{In-Ok}
 use Rattle.concurrent_lru.proofs.locked.Locked.insert.Goals as goal
 
 pub invariant_of-self : goal.invariant_of-self
-invariant_of-self g c =
+invariant_of-self g c = record {
+  counted = soundly_refused {E = g.K.PartialEq.eq} c.self.inside.state.cache c.self.inside.state.cache c.self.inside.counts c.refuse.new.self c.self.invariant.counted refl c.refuse.ensures;
+  kept = c.self.invariant.kept;
+}
+
+pub invariant_of-self-in-Err : goal.invariant_of-self-in-Err
+invariant_of-self-in-Err g c =
     let same = ap (λ x. x.cache) c.in-Err.ensures.same in
     record {
-      counted = soundly_refused {E = g.K.PartialEq.eq} c.self.inside.state.cache c.insert_at.new.self.cache c.self.inside.counts c.refuse.new.self c.self.invariant.counted same c.refuse.ensures;
+      counted = soundly_refused {E = g.K.PartialEq.eq} c.self.inside.state.cache c.insert_at.new.self.cache c.self.inside.counts c.refuse-in-Err.new.self c.self.invariant.counted same c.refuse-in-Err.ensures;
       kept = subst (ValuesFit g.F.Fit.fits) (sym same) c.self.invariant.kept;
     }
 

@@ -7,7 +7,7 @@ use Rattle.concurrent_lru.proofs.Steps.ReadyValues.{invalidate_kept}
 use Rattle.concurrent_lru.proofs.locked.Locked.invalidate.Goals as goal
 
 pub evict-requires : goal.evict-requires
-evict-requires g c = can_count c.invalidate-evicted.result c.self.invariant.counted.adds_up (invalidate_evicts {E = g.K.PartialEq.eq} _ _ _ _ c.self.invariant.counted.lawful c.invalidate-evicted.ensures.step) c.len.ensures c.total.ensures.step.0
+evict-requires g c = can_count c.invalidate-evicted.result c.self.invariant.counted (invalidate_evicts {E = g.K.PartialEq.eq} _ _ _ _ c.self.invariant.counted.lawful c.invalidate-evicted.ensures.step) c.len.ensures c.total.ensures.step.0
 
 pub invariant_of-self : goal.invariant_of-self
 invariant_of-self g c = record {
@@ -16,10 +16,10 @@ invariant_of-self g c = record {
 }
 
 pub returns-clause-counted : goal.returns-clause-counted
-returns-clause-counted g c = rw c.of.ensures (counts_evicted c.invalidate-evicted.result c.self.view_is c.self.invariant.counted.adds_up (invalidate_evicts {E = g.K.PartialEq.eq} _ _ _ _ c.self.invariant.counted.lawful c.invalidate-evicted.ensures.step) c.evict.ensures c.len.ensures c.total.ensures.step.0)
+returns-clause-counted g c = rw c.of.ensures (counts_evicted c.invalidate-evicted.result c.self.view_is c.self.invariant.counted (invalidate_evicts {E = g.K.PartialEq.eq} _ _ _ _ c.self.invariant.counted.lawful c.invalidate-evicted.ensures.step) c.evict.ensures c.len.ensures c.total.ensures.step.0)
 
 pub returns-clause-step : goal.returns-clause-step
 returns-clause-step g c =
     let new = c.invalidate-evicted.new.self.cache in
-    let step = subst (λ old. Stands g.K.PartialEq.eq old.cache (ask.invalidate c.args.key.now) (outcome_of_evictions c.invalidate-evicted.result) new) c.self.view_is c.invalidate-evicted.ensures.step in
-    subst (λ out. Stands g.K.PartialEq.eq c.args.self.now.cache (ask.invalidate c.args.key.now) (outcome_of_evictions out) new) (sym c.of.ensures) step
+    let step = subst (λ old. Stands g.K.PartialEq.eq old.cache (ask.invalidate (g.Q.AsKey.owned c.args.key)) (outcome_of_evictions c.invalidate-evicted.result) new) c.self.view_is c.invalidate-evicted.ensures.step in
+    subst (λ out. Stands g.K.PartialEq.eq c.args.self.now.cache (ask.invalidate (g.Q.AsKey.owned c.args.key)) (outcome_of_evictions out) new) (sym c.of.ensures) step

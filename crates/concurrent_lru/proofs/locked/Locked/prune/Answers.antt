@@ -4,7 +4,7 @@ use Rattle.concurrent_lru.proofs.Steps.ReadyValues.{prune_kept}
 use Rattle.concurrent_lru.proofs.locked.Locked.prune.Goals as goal
 
 pub evict-requires : goal.evict-requires
-evict-requires g c = can_count c.prune-evicted.result c.self.invariant.counted.adds_up (pruned_size _ _ _ c.prune-evicted.ensures.step.0 c.prune-evicted.ensures.step.1) c.len.ensures c.total.ensures.step.0
+evict-requires g c = can_count c.prune-evicted.result c.self.invariant.counted (pruned_size _ _ _ c.prune-evicted.ensures.step.0 c.prune-evicted.ensures.step.1) c.len.ensures c.total.ensures.step.0
 
 pub invariant_of-self : goal.invariant_of-self
 invariant_of-self g c = record {
@@ -13,4 +13,4 @@ invariant_of-self g c = record {
 }
 
 pub returns-clause-counted : goal.returns-clause-counted
-returns-clause-counted g c = rw c.of.ensures (counts_evicted c.prune-evicted.result c.self.view_is c.self.invariant.counted.adds_up (pruned_size _ _ _ c.prune-evicted.ensures.step.0 c.prune-evicted.ensures.step.1) c.evict.ensures c.len.ensures c.total.ensures.step.0)
+returns-clause-counted g c = rw c.of.ensures (counts_evicted c.prune-evicted.result c.self.view_is c.self.invariant.counted (pruned_size _ _ _ c.prune-evicted.ensures.step.0 c.prune-evicted.ensures.step.1) c.evict.ensures c.len.ensures c.total.ensures.step.0)

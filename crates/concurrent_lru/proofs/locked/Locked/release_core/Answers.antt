@@ -9,7 +9,7 @@ invariant_of-self-then-is_empty g c = record {
 }
 
 pub evict-requires : goal.evict-requires
-evict-requires g c = can_count c.in_ok-evicted.evicted c.self.invariant.counted.adds_up (release_evicts {E = g.K.PartialEq.eq} _ _ _ _ c.in_ok-evicted.ensures.step) c.len.ensures c.total.ensures.step.0
+evict-requires g c = can_count c.in_ok-evicted.evicted c.self.invariant.counted (release_evicts {E = g.K.PartialEq.eq} _ _ _ _ c.in_ok-evicted.ensures.step) c.len.ensures c.total.ensures.step.0
 
 pub invariant_of-self-2 : goal.invariant_of-self-2
 invariant_of-self-2 g c = record {
@@ -18,4 +18,4 @@ invariant_of-self-2 g c = record {
 }
 
 pub returns-clause-counted : goal.returns-clause-counted
-returns-clause-counted g c = counts_evicted c.in_ok-evicted.evicted c.self.view_is c.self.invariant.counted.adds_up (release_evicts {E = g.K.PartialEq.eq} _ _ _ _ c.in_ok-evicted.ensures.step) c.evict.ensures c.len.ensures c.total.ensures.step.0
+returns-clause-counted g c = counts_evicted c.in_ok-evicted.evicted c.self.view_is c.self.invariant.counted (release_evicts {E = g.K.PartialEq.eq} _ _ _ _ c.in_ok-evicted.ensures.step) c.evict.ensures c.len.ensures c.total.ensures.step.0

@@ -3,7 +3,7 @@ use Rattle.concurrent_lru.proofs.Steps.ReadyValues.{set_capacity_kept}
 use Rattle.concurrent_lru.proofs.locked.Locked.set_capacity.Goals as goal
 
 pub evict-requires : goal.evict-requires
-evict-requires g c = can_count c.set_capacity-evicted.result c.self.invariant.counted.adds_up (capacity_evicts _ _ c.args.capacity _ c.set_capacity-evicted.ensures.step) c.len.ensures c.total.ensures.step.0
+evict-requires g c = can_count c.set_capacity-evicted.result c.self.invariant.counted (capacity_evicts _ _ c.args.capacity _ c.set_capacity-evicted.ensures.step) c.len.ensures c.total.ensures.step.0
 
 pub invariant_of-self : goal.invariant_of-self
 invariant_of-self g c = record {
@@ -12,4 +12,4 @@ invariant_of-self g c = record {
 }
 
 pub returns-clause-counted : goal.returns-clause-counted
-returns-clause-counted g c = rw c.of.ensures (counts_evicted c.set_capacity-evicted.result c.self.view_is c.self.invariant.counted.adds_up (capacity_evicts _ _ c.args.capacity _ c.set_capacity-evicted.ensures.step) c.evict.ensures c.len.ensures c.total.ensures.step.0)
+returns-clause-counted g c = rw c.of.ensures (counts_evicted c.set_capacity-evicted.result c.self.view_is c.self.invariant.counted (capacity_evicts _ _ c.args.capacity _ c.set_capacity-evicted.ensures.step) c.evict.ensures c.len.ensures c.total.ensures.step.0)

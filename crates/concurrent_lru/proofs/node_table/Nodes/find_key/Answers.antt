@@ -46,17 +46,17 @@ walk-preserved g c =
       ahead = λ k slot d at hash same h. elim (cases_eq k c.in-Item.cursor) [
         | inl is ↦
             let node : n ≡ d.value = only_candidate s c.in-Item.cursor slot n d (listing d) c.self.invariant.linked.tied (led g (goal.at.walk-preserved g c).After-get-node) at (subst (λ j. Holds s.by_hash j (listing d)) is h) refl in
-            absurd (true≢false (sym same ∙ ap (λ x. g.K.PartialEq.eq (entry_of x).key c.args.key.now) (sym node) ∙ sym c.eq.ensures ∙ c.if-eq.false))
+            absurd (true≢false (sym same ∙ ap (λ x. g.K.PartialEq.eq (entry_of x).key (g.Q.AsKey.owned c.args.key)) (sym node) ∙ sym c.is_key.ensures ∙ c.if-is_key.false))
         | inr ne ↦ past s.by_hash (mark_of c.args.hash) (mark_filled c.args.hash) c.walk.at c.next-at.result c.in-Item.cursor c.in-Item.is c.next-at.ensures.rest k ne (c.walk.invariant.ahead k slot d at hash same h)
       ];
     }
 
-pub returns-then-eq-clause-found : goal.returns-then-eq-clause-found
-returns-then-eq-clause-found g c = let to = led g (goal.at.returns-then-eq-clause-found g c).After-get-node in (ap (λ x. (entry_of x).detached) to.is ∙ to.found, sym c.eq.ensures ∙ c.if-eq.true)
+pub returns-then-is_key-clause-found : goal.returns-then-is_key-clause-found
+returns-then-is_key-clause-found g c = let to = led g (goal.at.returns-then-is_key-clause-found g c).After-get-node in (ap (λ x. (entry_of x).detached) to.is ∙ to.found, sym c.is_key.ensures ∙ c.if-is_key.true)
 
-pub returns-then-eq-clause-node : goal.returns-then-eq-clause-node
-returns-then-eq-clause-node g c =
-    let o = c.self.inside.order in let to = led g (goal.at.returns-then-eq-clause-node g c).After-get-node in
+pub returns-then-is_key-clause-node : goal.returns-then-is_key-clause-node
+returns-then-is_key-clause-node g c =
+    let o = c.self.inside.order in let to = led g (goal.at.returns-then-is_key-clause-node g c).After-get-node in
     shown_found o _ _ c.get-node.result.now c.self.view_is c.self.invariant.linked (to.cell, candidate_there o.slots c.in-Item.cursor c.get-node.result.now c.self.invariant.linked.tied to, to.is)
 
 pub returns-clause-found : goal.returns-clause-found
@@ -67,12 +67,12 @@ returns-clause-found g c = λ p e at found hash.
     let d = cell.0 in let same = cell.2 in
     let hashed = hash_cell (cell_at s.memory.cells p) d c.args.hash cell.1 (sym (hash_had i.order i.work.count c.args.self.now c.self.view_is p p refl) ∙ hash) in
     let h = c.self.invariant.listed.listed p (listing d) (cell_listed (cell_at s.memory.cells p) d cell.1 (ap (λ x. x.detached) same ∙ found)) in
-    ap (λ x. g.K.PartialEq.eq x.key c.args.key.now) (sym same) ∙ (elim (g.K.PartialEq.eq (entry_of d.value).key c.args.key.now) as (λ b. g.K.PartialEq.eq (entry_of d.value).key c.args.key.now ≡ b → b ≡ false) [
+    ap (λ x. g.K.PartialEq.eq x.key (g.Q.AsKey.owned c.args.key)) (sym same) ∙ (elim (g.K.PartialEq.eq (entry_of d.value).key (g.Q.AsKey.owned c.args.key)) as (λ b. g.K.PartialEq.eq (entry_of d.value).key (g.Q.AsKey.owned c.args.key) ≡ b → b ≡ false) [
       | true ↦ λ is. absurd (none_past s.by_hash (mark_of c.args.hash) (mark_filled c.args.hash) c.walk.at h.0 c.in_default.not-Item (c.walk.invariant.ahead h.0 p d cell.1 hashed is h.1))
       | false ↦ λ other. refl
     ] refl)
 
-pub returns-then-eq-clause-link : goal.returns-then-eq-clause-link
-returns-then-eq-clause-link g c =
+pub returns-then-is_key-clause-link : goal.returns-then-is_key-clause-link
+returns-then-is_key-clause-link g c =
     let o = c.self.inside.order in let s = o.slots in
-    leads_link o _ _ c.self.view_is _ _ refl c.item-link.result.ptr (candidate_leads s c.in-Item.cursor _ c.get-node.result.now (entry (mark_at (marks_of s.by_hash) c.in-Item.cursor) c.item-link.result) c.self.invariant.linked.tied (led g (goal.at.returns-then-eq-clause-link g c).After-get-node) c.item-link.ensures refl)
+    leads_link o _ _ c.self.view_is _ _ refl c.item-link.result.ptr (candidate_leads s c.in-Item.cursor _ c.get-node.result.now (entry (mark_at (marks_of s.by_hash) c.in-Item.cursor) c.item-link.result) c.self.invariant.linked.tied (led g (goal.at.returns-then-is_key-clause-link g c).After-get-node) c.item-link.ensures refl)

@@ -11,7 +11,7 @@ use Rattle.concurrent_lru.proofs.node_table.Nodes.find_key.Given as goal
 abbrev pub invariant-walk : goal.invariant-walk
 invariant-walk g l = record {
   mark : HasMark l.slots.by_hash (mark_of l.hash) l.at;
-  ahead : (k slot : ℕ) (c : NodeCell g.row.K.Denot g.row.V.Denot) → cell_at l.slots.memory.cells slot ≡ Some c → hash_of c.value ≡ l.hash → g.K.PartialEq.eq (entry_of c.value).key l.key ≡ true → Holds l.slots.by_hash k (listing c) → Contains (walk l.slots.by_hash l.at) k;
+  ahead : (k slot : ℕ) (c : NodeCell g.row.K.Denot g.row.V.Denot) → cell_at l.slots.memory.cells slot ≡ Some c → hash_of c.value ≡ l.hash → g.K.PartialEq.eq (entry_of c.value).key (g.Q.AsKey.owned l.key) ≡ true → Holds l.slots.by_hash k (listing c) → Contains (walk l.slots.by_hash l.at) k;
 }
 
 abbrev pub decreases-walk : goal.decreases-walk

@@ -1,11 +1,11 @@
 -- If not all buckets are filled, each search ends at an empty bucket, which is then filled.
 use Rattle.std.proofs.Common.{◌≡◌, ◌≢◌, ℕ, ◌<◌, List, length, set, sym, ap, ◌∙◌, subst}
 use Rattle.concurrent_lru.specs.Probing.Cycle.{home_of}
-use Rattle.concurrent_lru.specs.Probing.Probes.{marks_of, end_at, IsEmptyAt, IsReached}
+use Rattle.concurrent_lru.specs.Probing.Probes.{marks_of, end_at, Ends, IsEmptyAt, IsReached}
 use Rattle.concurrent_lru.specs.Probing.Entries.{count}
 use Rattle.concurrent_lru.specs.declared.node_table.probes.Bucket.{Bucket}
 use Rattle.concurrent_lru.proofs.Probing.Marks.{length-marks, marks-set}
-use Rattle.concurrent_lru.proofs.Probing.Fills.{Ends, ends_at, fills}
+use Rattle.concurrent_lru.proofs.Probing.Fills.{ends_at, fills}
 use Rattle.concurrent_lru.proofs.Probing.Contents.Slots.{count_filled, some_empty}
 use Rattle.concurrent_lru.proofs.Probing.Contents.Changes.{adds, adds_apart}
 use Rattle.concurrent_lru.proofs.node_table.probes.put.Goals as goal

@@ -1,5 +1,5 @@
 -- What left to make way counts as well.
-use Rattle.std.proofs.Common.{◌≢◌, MatchOption, subst}
+use Rattle.std.proofs.Common.{◌≢◌, MatchOption, subst, sym}
 use Rattle.std.specs.Prelude.{IfErr, IfNone, IfOk}
 use Rattle.concurrent_lru.specs.declared.refusal.Refusal.TheVariants.{Stale}
 use Rattle.lru_clock.specs.SeatChanges.{AddsVacant, Charges, ChargesOver, VacatesAny}
@@ -15,7 +15,8 @@ returns-in-Ok-clause-charged g c =
     let left = c.store_over-stored.result.1 in
     let made = subst (λ way. VacatesAny old mid (left_by way)) c.in-Clear.is c.in_ok-evicted.ensures.seats in
     let charged = subst (λ r. IfOk r (λ found. MatchOption c.in-Clear.evicted (ChargesOver c.args.charge found.place mid new left) (λ _. Charges c.args.charge found.place mid new))) c.in-Ok.is c.store_over-stored.ensures.charged in
-    over_way c.args.charge c.in-Ok.field-0.place old mid new c.in-Clear.evicted left made charged c.store_over-stored.ensures.left
+    let over = over_way c.args.charge c.in-Ok.found.place old mid new c.in-Clear.evicted left made charged c.store_over-stored.ensures.left in
+    subst (λ place. ChargesOver c.args.charge place old new left) (sym c.into_hold.ensures) over
 
 pub returns-in-None-clause-refused : goal.returns-in-None-clause-refused
 returns-in-None-clause-refused g c =

@@ -1,4 +1,5 @@
--- A new entry that is stored counts, and what left does not. One that is refused leaves the seats as they were, unless the key's entry has given way.
+-- A new entry that is stored counts, and what left does not. One that is refused leaves the seats
+-- as they were, unless the key's entry has given way.
 use Rattle.std.proofs.Common.{◌≡◌, true, None, MatchOption, set, sym, ap, subst, ◌∙◌}
 use Rattle.std.specs.Prelude.{IfNone, is_some}
 use Rattle.lru_clock.specs.SeatChanges.{AddsVacant, ChargesOver, IsUnlisted, KeepsCharges, LeavesAnyOther}

@@ -1,7 +1,7 @@
 -- A word that leads to the entry is put in.
 use Rattle.std.proofs.Common.{◌≡◌, ◌<◌, Some, true, length, set, sym, ap, ◌∙◌, subst, arith, refl, sum_by}
 use Rattle.std.specs.Prelude.{slice_get}
-use Rattle.concurrent_lru.proofs.Probing.Fills.{Ends}
+use Rattle.concurrent_lru.specs.Probing.Probes.{Ends}
 use Rattle.lru_clock.specs.Index.{LacksWord, AreOnce, PutsIn, word_of}
 use Rattle.lru_clock.specs.Seats.{LacksKey, IsIndex, listed_as}
 use Rattle.lru_clock.proofs.Seating.Places.{got_one, seat_read, sum_kept}

@@ -1,4 +1,4 @@
-use Rattle.lru_journal.proofs.twin_state.note.Given as goal
+use Rattle.lru_journal.proofs.door.Door.note.Given as goal
 
 -- the record that the journal has added last
 abbrev pub ghosts-append : goal.ghosts-append
