@@ -7,7 +7,7 @@ use clap::{Arg, ArgAction, ArgMatches, Command, Error, value_parser};
 use std::alloc::{AllocError, Global};
 
 /// The version of the program, which is that of the whole repository.
-const VERSION: &str = "1.0.0";
+const VERSION: &str = "2.0.0";
 
 /// The path that means standard input for the trace, and standard output for the results.
 const STANDARD_STREAM: &str = "-";

@@ -50,6 +50,21 @@ pub fn reaches(count: &AtomicU64, wanted: u64) -> bool {
     false
 }
 
+/// Yields until the condition is met. Returns false if the thread gave up first.
+pub fn yield_until<F>(is_met: F) -> bool
+where
+    F: Fn() -> bool + Drop,
+    requires callable { F.IsAlwaysCallable is_met }
+{
+    for _ in 0..LOOKS {
+        if is_met() {
+            return true;
+        }
+        thread::yield_now();
+    }
+    false
+}
+
 /// Yields this many times.
 pub fn yield_times(times: u64) {
     for _ in 0..times {

@@ -5,6 +5,7 @@ ghost use Rattle.std.specs.Prelude.{◌<◌};
 use crate::assertions::assert_equal_at;
 use crate::caches::{Clock, OneLock, Shards, clock_with_shards, with_shards};
 use crate::flags::{is_raised, meets, raise};
+use crate::removals::Removing;
 use crate::threaded::{make_value, try_make_value};
 use lru_support::cached::Cached;
 use std::alloc::{AllocError, Global};
@@ -158,6 +159,85 @@ fn evict_idle<C: Cached<Slow>>(cache: C, gate: &Arc<Gate>, cause: Cause) {
     }
 }
 
+// The same for a cache from which entries are removed without naming their keys.
+trait RemovalGate {
+    // Makes a value of key 1 as `GateCache::evict` does, and removes it by `clear` or by `retain`.
+    // Returns whether it could be made.
+    fn remove(&self, gate: &Arc<Gate>, is_clear: bool) -> bool;
+}
+
+impl<C: Removing<Slow>> RemovalGate for C {
+    fn remove(&self, gate: &Arc<Gate>, is_clear: bool) -> bool {
+        let Ok(value) = Slow::at(gate) else {
+            return false;
+        };
+        let Ok(handle) = make_value(*self, 1, 1, value, &mut None) else {
+            return false;
+        };
+        drop(handle);
+        if is_clear {
+            self.clear();
+        } else {
+            self.retain_none();
+        }
+        true
+    }
+}
+
+// Returns the total while a cache that has room for a value of charge 1 drops it when it is
+// removed, or `None` as `total_in_drop` does.
+fn total_in_removal<T: Threads, C: GateCache + RemovalGate + Sync>(
+    rt: &T,
+    alloc: Global,
+    cache: &C,
+    is_clear: bool,
+) -> Option<u128> {
+    let gate = Arc::new(alloc, Gate::new()).ok()?;
+    let met = &gate;
+    let (made, total) = thread::join(
+        rt,
+        move || cache.remove(met, is_clear),
+        move || cache.total_meanwhile(&**met),
+    );
+    if made {
+        gate.checked_total(total)
+    } else {
+        None
+    }
+}
+
+// Returns this total of a new cache behind one lock.
+fn removal_in_one_lock<R: Wait + Threads + Clone + Drop + Sync + Send>(
+    rt: &R,
+    alloc: Global,
+    is_clear: bool,
+) -> Option<u128> {
+    let cache: OneLock<Slow, R> = OneLock::new(alloc, rt.clone().ok()?, 1);
+    total_in_removal(rt, alloc, &&cache, is_clear)
+}
+
+// Returns this total of a new cache of two shards.
+fn removal_in_two_shards<R: Wait + Threads + Clone + Drop + Sync + Send>(
+    rt: &R,
+    alloc: Global,
+    is_clear: bool,
+) -> Option<u128> {
+    let own = rt.clone().ok()?;
+    let cache: Shards<Slow, R> = with_shards(alloc, own, 2, 2)?;
+    total_in_removal(rt, alloc, &&cache, is_clear)
+}
+
+// Returns this total of a new clock of two shards.
+fn removal_in_two_shards_of_a_clock<R: Wait + Threads + Clone + Drop + Sync + Send>(
+    rt: &R,
+    alloc: Global,
+    is_clear: bool,
+) -> Option<u128> {
+    let own = rt.clone().ok()?;
+    let cache: Clock<Slow, R> = clock_with_shards(alloc, own, 2, 2)?;
+    total_in_removal(rt, alloc, &&cache, is_clear)
+}
+
 // Returns the total while an empty cache drops a value that this cause evicts, or `None` if the
 // value could not be made or was not dropped, or if a lock was not free then.
 fn total_in_drop<T: Threads, C: GateCache + Sync>(
@@ -235,5 +315,17 @@ fn drops_run_without_a_lock_of_the_clock(rt: HostRuntime) {
         }
         let told = in_two_shards_of_a_clock(&rt, rt.alloc(), cause, share);
         assert_equal_at(&rt, told, Some(total), cause);
+    }
+}
+
+#[test]
+fn clear_and_retain_drop_without_a_lock(rt: HostRuntime) {
+    for is_clear in [true, false] {
+        let told = [
+            removal_in_one_lock(&rt, rt.alloc(), is_clear),
+            removal_in_two_shards(&rt, rt.alloc(), is_clear),
+            removal_in_two_shards_of_a_clock(&rt, rt.alloc(), is_clear),
+        ];
+        assert_equal_at(&rt, told, [Some(0); 3], ("clear", is_clear));
     }
 }

@@ -7,6 +7,8 @@
 #[cfg(test)]
 mod assertions;
 #[cfg(test)]
+mod beginnings;
+#[cfg(test)]
 mod caches;
 #[cfg(test)]
 mod clock;
@@ -31,6 +33,8 @@ mod meetings;
 #[cfg(test)]
 mod pool;
 #[cfg(test)]
+mod removals;
+#[cfg(test)]
 mod resets;
 #[cfg(test)]
 mod rows;
@@ -40,5 +44,7 @@ mod seeded;
 mod stress;
 #[cfg(test)]
 mod threaded;
+#[cfg(test)]
+mod told;
 #[cfg(test)]
 mod waiting;

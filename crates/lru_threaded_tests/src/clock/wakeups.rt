@@ -18,6 +18,7 @@ use std::thread::Threads;
 enum Change {
     Invalidate,
     InvalidateSince,
+    Clear,
     Insert,
 }
 
@@ -36,6 +37,7 @@ fn makes_change<R: Wait>(cache: &Clock<u64, R>, change: Change) {
     match change {
         Change::Invalidate => invalidates(cache, 1, false),
         Change::InvalidateSince => invalidates(cache, 1, true),
+        Change::Clear => cache.clear(),
         Change::Insert => drop(cache.insert(&1, 1, 7)),
     }
 }
@@ -99,6 +101,7 @@ fn who_waits_for_an_invalidated_value_waits_no_longer(rt: HostRuntime) {
     let cases = [
         (Change::Invalidate, 6),
         (Change::InvalidateSince, 6),
+        (Change::Clear, 6),
         (Change::Insert, 7),
     ];
     for (told, value) in cases {

@@ -9,12 +9,14 @@ use std::alloc::{AllocError, Global};
 use std::hash::BuildHasher;
 use std::sync::Wait;
 
-/// How many entries a walk shows, and the sums of what it tells of each.
+/// How many entries a walk shows, and the sums of what it tells of each. The products of keys and
+/// values tell which value is shown with which key.
 #[derive(Clone, Copy, Debug)]
 pub(crate) struct Walk {
     entries: u64,
     keys: u64,
     values: u64,
+    products: u64,
     charges: u64,
     pins: u64,
 }
@@ -26,6 +28,7 @@ impl Walk {
             entries: 0,
             keys: 0,
             values: 0,
+            products: 0,
             charges: 0,
             pins: 0,
         }
@@ -36,6 +39,7 @@ impl Walk {
         self.entries = self.entries.wrapping_add(1);
         self.keys = self.keys.wrapping_add(key);
         self.values = self.values.wrapping_add(value);
+        self.products = self.products.wrapping_add(key.wrapping_mul(value));
         self.charges = self.charges.wrapping_add(charge);
         self.pins = self.pins.wrapping_add(u64::from(pins));
     }
