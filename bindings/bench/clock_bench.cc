@@ -6,6 +6,8 @@
 //   clock_bench hits [ROUNDS [ENTRIES..]]           by default 5 rounds, with 1,000, 100,000 and
 //                                                   1,000,000 entries
 //   clock_bench count SYSTEM ENTRIES HITS           makes the hits of one system, for valgrind
+//   clock_bench count_misses SYSTEM ENTRIES MISSES  the same with misses, each of which adds an
+//                                                   entry and evicts another one
 //
 // The systems are the calls of lru.h on clocks and mutexes (c-clock), lru::ClockCache (cpp-clock),
 // lru::ShardedCache (cpp-sharded), and as rocksdb::Cache what lru::NewRocksDBClockCache makes
@@ -17,12 +19,13 @@
 // each thread asks for 300,000 of them, each from another one on; what is missing is made.
 // hit_16: one thread asks for a million keys that are there, drawn uniformly.
 //
-// To count the instructions of a hit, with those of the loop around it, divide by HITS what
+// To count the instructions of a hit or a miss, with those of the loop around it, divide by HITS
+// what
 //
 //   valgrind --tool=callgrind --callgrind-out-file=/dev/null --toggle-collect='*CallEach*'
 //     build/clock_bench count SYSTEM ENTRIES HITS
 //
-// says that it collected.
+// says that it collected. With --cache-sim=yes it counts cache lines too.
 #include <algorithm>
 #include <atomic>
 #include <cmath>
@@ -96,6 +99,15 @@ Work Hits(std::uint64_t entries, std::size_t calls) {
     x = Next(x);
     work.keys.push_back(static_cast<std::uint32_t>((x >> 32) * entries >> 32));
   }
+  return work;
+}
+
+Work Misses(std::uint64_t entries, std::size_t calls) {
+  Work work = {"miss_16", entries, entries, {}, {}, 1, calls};
+  work.fill.resize(static_cast<std::size_t>(entries));
+  std::iota(work.fill.begin(), work.fill.end(), 0);
+  work.keys.resize(calls);
+  std::iota(work.keys.begin(), work.keys.end(), static_cast<std::uint32_t>(entries));
   return work;
 }
 
@@ -342,10 +354,11 @@ void Compare(const Work& work, int rounds) {
   bench::Compare(systems, what, rounds);
 }
 
-bool Count(const char* name, std::uint64_t entries, std::size_t hits) {
+bool Count(const char* name, std::uint64_t entries, std::size_t calls, bool are_hits) {
   for (const System& system : kSystems) {
     if (std::strcmp(system.name, name) != 0) continue;
-    return system.measure(Hits(entries, hits)).hit_ratio >= 1;
+    const Work work = are_hits ? Hits(entries, calls) : Misses(entries, calls);
+    return (system.measure(work).hit_ratio > 0.5) == are_hits;
   }
   return false;
 }
@@ -354,7 +367,8 @@ int Usage() {
   std::fprintf(stderr,
                "usage: clock_bench read_mostly [ROUNDS [THREADS..]]\n"
                "       clock_bench hits [ROUNDS [ENTRIES..]]\n"
-               "       clock_bench count SYSTEM ENTRIES HITS\n");
+               "       clock_bench count SYSTEM ENTRIES HITS\n"
+               "       clock_bench count_misses SYSTEM ENTRIES MISSES\n");
   return 2;
 }
 
@@ -362,13 +376,15 @@ int Usage() {
 
 int main(int argc, char** argv) {
   const std::string mode = argc > 1 ? argv[1] : "";
+  const bool counts = mode == "count" || mode == "count_misses";
   std::vector<std::uint64_t> numbers;
-  for (int n = mode == "count" ? 3 : 2; n < argc; n++) {
+  for (int n = counts ? 3 : 2; n < argc; n++) {
     numbers.push_back(std::strtoull(argv[n], nullptr, 10));
     if (numbers.back() == 0 || numbers.back() > 100000000) return Usage();
   }
-  if (mode == "count") {
-    return numbers.size() == 2 && Count(argv[2], numbers[0], numbers[1]) ? 0 : Usage();
+  if (counts) {
+    if (numbers.size() != 2) return Usage();
+    return Count(argv[2], numbers[0], numbers[1], mode == "count") ? 0 : Usage();
   }
   const int rounds = numbers.empty() ? 5 : static_cast<int>(numbers[0]);
   if (numbers.size() > 1) {

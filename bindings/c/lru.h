@@ -5,10 +5,10 @@
  * without a pin is idle. While the total of all charges is above the capacity, idle entries are
  * evicted, the one that was released longest ago first.
  *
- * The capacity is not a hard limit: held entries stay, and count. Strict calls of `begin` and
- * `insert` make it one: they answer LRU_FULL, and evict nothing, if a new entry would take the
- * total above the capacity even after all idle entries have left. If every entry of a cache is
- * added by strict calls, and the capacity is not lowered, the total is never above it.
+ * The capacity is not a hard limit: held entries stay, and count. Strict calls of `begin`,
+ * `ready_with` and `insert` make it one: they answer LRU_FULL, and evict nothing, if a new entry or
+ * a new charge would take the total above the capacity even after all idle entries have left. If
+ * all such calls are strict, and the capacity is not lowered, the total is never above it.
  *
  * A value is one word (uint64_t) of the caller's, usually the address of an object. The cache never
  * looks at it and never deletes the object. Entries that leave the cache are put into a chain,
@@ -29,13 +29,15 @@
  *     lru_words_*   keys are 16 bytes, passed as two words, and faster to look up
  *     lru_cache_*   calls on a cache that take no key
  *     lru_chain_*   calls on a chain, which takes entries of any cache
- *     lru_clock_*   calls on a clock, another cache: a hit in it takes no lock (THE CLOCK, below)
- *     lru_reader_*  calls of a thread on a clock, without the lock
+ *     lru_clock_*   calls on a clock, another cache, whose hits take no lock (THE CLOCK, below):
+ *                   those that change it or look at all of it, under a mutex of its own
+ *     lru_reader_*  calls on a clock without that mutex, by a thread that has a reader of it
  *
  * The library is proved: each call is one step of the cache that docs/DEFINITIONS.md in the sources
  * defines, or is refused with a code and changes nothing. The library takes no lock and starts no
- * thread; lru_threads.h adds locks. The archive is for Linux with glibc or musl. Link it into a
- * shared object with -Wl,--whole-archive, or there is nothing in it; liblru.so.1 is one.
+ * thread; lru_threads.h and lru_threads_clock.h add locks. The archive is for Linux with glibc or
+ * musl. Link it into a shared object with -Wl,--whole-archive, or there is nothing in it;
+ * liblru.so.2 is one.
  *
  * WHAT THE CALLER MUST ENSURE. The proofs rely on the following, and it is not checked at run time:
  *
@@ -108,11 +110,11 @@
  * COMING FROM ANOTHER CACHE. Entries are evicted by `begin`, by the `release` of a last pin and by
  * `set_capacity`; many caches evict only when an entry is inserted. `begin` does not change the
  * charge of an entry that exists. If the other cache has a strict limit, make strict calls of
- * `begin` and `insert`. `advice_evict` does nothing to a held entry: it can still be found, and
- * becomes idle with its last release. `invalidate` detaches a held entry from its key: the key no
- * longer finds it, and it is evicted with its last release. `insert` does the same to the entry
- * that it replaces. `release_and_evict` is a release that also evicts the entry if nobody else
- * holds it. An entry counts towards the total while its value is being made, and when it is
+ * `begin`, `ready_with` and `insert`. `advice_evict` does nothing to a held entry: it can still be
+ * found, and becomes idle with its last release. `invalidate` detaches a held entry from its key:
+ * the key no longer finds it, and it is evicted with its last release. `insert` does the same to
+ * the entry that it replaces. `release_and_evict` is a release that also evicts the entry if nobody
+ * else holds it. An entry counts towards the total while its value is being made, and when it is
  * detached but still held.
  */
 #ifndef CONCURRENT_LRU_H
@@ -123,7 +125,19 @@
 #include <stdint.h>
 #include <string.h>
 
-#define LRU_VERSION "1.0.0"
+#define LRU_VERSION "2.0.0"
+
+/* Whether this is compiled for ThreadSanitizer. */
+#if defined(__SANITIZE_THREAD__)
+#define LRU_HAS_THREAD_SANITIZER
+#elif defined(__has_feature)
+#if __has_feature(thread_sanitizer)
+#define LRU_HAS_THREAD_SANITIZER
+#endif
+#endif
+#ifdef LRU_HAS_THREAD_SANITIZER
+#include <sanitizer/tsan_interface.h>
+#endif
 
 /* How functions are declared that the header defines. In the shared library they are exported. */
 #ifndef LRU_INLINE
@@ -136,7 +150,8 @@ extern "C" {
 
 /* The result of a call. After a refusal nothing has changed: no entry was added, moved, pinned or
  * evicted, and nothing was put into a chain. There is one exception: where lru_clock_ready has no
- * memory, or a number would overflow, the making has ended. */
+ * memory, or a number would overflow, the making has ended. If a call could be refused for several
+ * reasons, any of them may be told. */
 typedef uint32_t lru_code;
 
 enum {
@@ -163,9 +178,9 @@ enum {
     LRU_OVERFLOW = 7, /* a number would overflow: the total of charges, the stamps or the pins */
     LRU_STALE = 8,    /* the pin names no entry that the call is for, or the ticket no making */
     LRU_MEMORY = 9,   /* malloc or realloc returned null */
-    LRU_FULL = 20,    /* a strict begin or insert: the charge and those of the held entries add up
-                         to more than the capacity. Clock: a strict add or ready would take the
-                         total above the capacity */
+    LRU_FULL = 20,    /* a strict begin, ready_with or insert: the charge and those of the held
+                         entries, at ready_with of the others, add up to more than the capacity.
+                         Clock: a strict add or ready would take the total above the capacity */
 
     LRU_NUMBER = 10, /* no refusal: the number that was asked for is told as the value */
 
@@ -192,7 +207,8 @@ enum {
 };
 
 /* Names an entry that the caller has pinned. `begin`, `get`, `poll`, `repin` and `insert` tell it;
- * `poll`, `ready`, `fail`, `repin`, `release`, `release_and_evict`, `entry` and `key_of` take it.
+ * `poll`, `ready`, `ready_with`, `fail`, `repin`, `release`, `release_and_evict`, `entry` and
+ * `key_of` take it.
  * It may be copied, and is passed on as it was told.
  *
  * It is good until the pin is given back, and then for as long as the entry stays in the cache. An
@@ -473,6 +489,21 @@ lru_told lru_cache_poll(lru_cache *cache, lru_pin pin);
  * LRU_CLOSED. */
 LRU_INLINE lru_code lru_cache_ready(lru_cache *cache, lru_pin pin, uint64_t value);
 
+/* As `ready`, for a value that tells its charge only once it is made: `charge`, above 0, takes the
+ * place of the one with which the entry was begun, 1 for example. It counts for every holder of the
+ * entry. While the total is above the capacity, idle entries are evicted into `gone`, oldest first.
+ *
+ * If the call is `strict`, and `charge` and the charges of the other held entries add up to more
+ * than the capacity, nothing changes. In particular, nothing is evicted.
+ *
+ * Does not allocate. LRU_DONE: the value belongs to the cache; LRU_STALE if no entry with the stamp
+ * has its value being made; LRU_OVERFLOW if the total would exceed 2^64 - 1; LRU_FULL if the call
+ * is strict and there is no room; LRU_NO_CHARGE if `charge` is 0; LRU_CLOSED; LRU_NOT_EMPTY. After
+ * a refusal the value still belongs to the caller, who, unless the code is LRU_STALE, still makes
+ * it: call `ready`, `ready_with` or `fail`. */
+LRU_INLINE lru_code lru_cache_ready_with(lru_cache *cache, lru_pin pin, uint64_t value,
+                                         uint64_t charge, bool strict, lru_chain *gone);
+
 /* Gives up making a value, and gives back the pin.
  *
  * Does not allocate. LRU_LEFT; LRU_REMOVED; LRU_STALE if no entry with the stamp has its value
@@ -516,7 +547,7 @@ lru_code lru_cache_prune(lru_cache *cache, lru_chain *gone);
 lru_code lru_cache_set_capacity(lru_cache *cache, uint64_t capacity, lru_chain *gone);
 
 /* Makes room for `entries` entries in all, so that no call that adds one grows a table until there
- * are more.
+ * are more. No call but lru_cache_free gives the memory of the tables back.
  *
  * Allocates. LRU_DONE; LRU_MEMORY; LRU_CLOSED. */
 lru_code lru_cache_reserve(lru_cache *cache, size_t entries);
@@ -585,11 +616,14 @@ bool lru_chain_is_empty(lru_chain *chain);
 
 /* THE CLOCK. A cache for threads whose hits take no lock. Its keys are two words, or bytes to which
  * its values lead (KEYS OF BYTES IN A CLOCK, below); its values are one word. It does not evict in
- * the exact order of the last uses: each entry has up to three chances, a hit adds one, and a hand
- * that moves from entry to entry takes one away and evicts an entry that has none.
+ * the exact order of the last uses: a new entry is on trial, and leaves unless it is used. Each of
+ * the others has up to three chances: a hit adds one, and a hand that moves from entry to entry
+ * takes one away and evicts an entry that has none.
  *
- * A clock is one shard. The caller has a mutex for it, and as many clocks as it wants shards. Each
- * thread has a reader of each clock. What may be called when:
+ * A clock is one shard. The caller has a mutex for it, and as many clocks as it wants shards. Few
+ * are needed, as hits do not contend: for eight threads that mostly hit, 64 clocks were no faster
+ * than 16. Each thread has a reader of each clock. lru_threads_clock.h has all of these, with POSIX
+ * threads. What may be called when:
  *
  *     lru_clock_*    under the mutex, as any call on a handle that threads share
  *     lru_reader_*   without it, from the thread that has the reader; lru_reader_new is given the
@@ -667,7 +701,8 @@ bool lru_chain_is_empty(lru_chain *chain);
  *
  * The hash is one of the program's choice, of the key alone. A clock uses its upper half; a program
  * with several clocks chooses among them by the lower half. Keys whose upper halves are equal are
- * told apart, but each look-up of such a key visits all of them.
+ * told apart, but each look-up of such a key visits all of them. A call that passes another hash
+ * for a key does not find its entry, and may add a second one; nothing worse happens.
  *
  * Less is proved of these calls than of the others: that a call on a handle that is not open
  * changes nothing, that at most one entry leaves in a call, which tells it, that none leaves while
@@ -684,7 +719,12 @@ bool lru_chain_is_empty(lru_chain *chain);
  * gives back the last pin of one is told LRU_ABOVE. To have the total down at once, take the mutex
  * then, and make room for a charge of 0 until LRU_DONE; otherwise the next make_room evicts down to
  * the capacity. LRU_ABOVE is not told in place of LRU_LAST, nor while another thread compares the
- * entry with a key. */
+ * entry with a key.
+ *
+ * ThreadSanitizer does not see the atomic instructions that order what threads do with a clock. A
+ * program that is tested with it has to tell it of them, by some address of the clock's own: by
+ * __tsan_release before an add, insert, ready or unpin, and by __tsan_acquire after a look-up with
+ * a reader, and after an entry has left. lru_threads_clock.h and the headers for C++ do so. */
 
 /* Opens an empty clock, whose entries are evicted while their total is above `capacity`. The caller
  * frees it with lru_clock_free.
@@ -839,7 +879,7 @@ lru_code lru_clock_set_capacity(lru_clock *clock, uint64_t capacity);
 /* Makes room in memory for as many entries, so that `add`, `insert` and `ready` allocate nothing
  * while there are fewer. Never gives memory back.
  *
- * Allocates about 120 bytes for each entry, page by page. LRU_DONE; LRU_OVERFLOW, at once, if
+ * Allocates about 138 bytes for each entry, page by page. LRU_DONE; LRU_OVERFLOW, at once, if
  * the clock cannot have as many entries, that is, more than 4,294,966,784; LRU_MEMORY if there is
  * no memory for all of them, and then the room that was made stays; LRU_CLOSED. No entry changes
  * in any case. */
@@ -950,16 +990,24 @@ lru_told lru_bytes_insert_nonnull(lru_cache *cache, const uint8_t *key, size_t l
 lru_told lru_bytes_key_of_nonnull(lru_cache *cache, lru_pin pin, uint8_t *buffer, size_t room);
 lru_told lru_cache_entries_nonnull(lru_cache *cache, lru_entry *out, size_t room);
 
-/* The functions behind `ready` and `release`. They take the members of the pin one by one, in
- * registers: a pin in memory is copied 16 bytes at a time, and a processor that reads as one what
- * was just written as two words waits until all earlier writes have reached its cache. */
+/* The functions behind `ready`, `ready_with` and `release`. They take the members of the pin one by
+ * one, in registers: a pin in memory is copied 16 bytes at a time, and a processor that reads as
+ * one what was just written as two words waits until all earlier writes have reached its cache. */
 lru_code lru_cache_ready_at(lru_cache *cache, uint64_t stamp, uint64_t hash, size_t place,
                             uint64_t value);
+lru_code lru_cache_ready_with_at(lru_cache *cache, uint64_t stamp, uint64_t hash, size_t place,
+                                 uint64_t value, uint64_t charge, bool strict, lru_chain *gone);
 lru_code lru_cache_release_at(lru_cache *cache, uint64_t stamp, uint64_t hash, size_t place,
                               lru_chain *gone);
 
 LRU_INLINE lru_code lru_cache_ready(lru_cache *cache, lru_pin pin, uint64_t value) {
     return lru_cache_ready_at(cache, pin.stamp, pin.hash, pin.place, value);
+}
+
+LRU_INLINE lru_code lru_cache_ready_with(lru_cache *cache, lru_pin pin, uint64_t value,
+                                         uint64_t charge, bool strict, lru_chain *gone) {
+    return lru_cache_ready_with_at(cache, pin.stamp, pin.hash, pin.place, value, charge, strict,
+                                   gone);
 }
 
 LRU_INLINE lru_code lru_cache_release(lru_cache *cache, lru_pin pin, lru_chain *gone) {
@@ -1106,6 +1154,26 @@ LRU_INLINE lru_told lru_cache_entries(lru_cache *cache, lru_entry *out, size_t r
     return lru_cache_entries_nonnull(cache, out, room);
 }
 
+/* ThreadSanitizer does not see the atomic instructions of the library, and would report races where
+ * they order what threads do. So these tell it of that order, and do nothing otherwise: what a
+ * thread has done before the first comes before what another one does after the second, with the
+ * same address. These names are internal. */
+static inline void lru_before_release(void *at) {
+#ifdef LRU_HAS_THREAD_SANITIZER
+    __tsan_release(at);
+#else
+    LRU_CAST(void, at);
+#endif
+}
+
+static inline void lru_after_acquire(void *at) {
+#ifdef LRU_HAS_THREAD_SANITIZER
+    __tsan_acquire(at);
+#else
+    LRU_CAST(void, at);
+#endif
+}
+
 /* Parts of the calls on a clock with keys of bytes; these names are internal. The hash for the
  * clock, which uses its upper half; whether a call passes a null key, and whether the value of a
  * pinned entry has a key; and the answer of a look-up, which gives back the pin of another key's
@@ -1130,10 +1198,20 @@ static inline lru_found lru_found_bare(lru_code code) {
 
 static inline lru_found lru_found_of_key(lru_reader *reader, lru_found found, const void *key,
                                          size_t length) {
+    if (found.code == LRU_HIT)
+        lru_after_acquire(LRU_RECAST(void *, found.value));
     if (found.code != LRU_HIT || lru_value_has_key(found.value, key, length))
         return found;
+    lru_before_release(LRU_RECAST(void *, found.value));
     lru_reader_unpin(reader, found.place);
     return lru_found_bare(LRU_MISSED);
+}
+
+/* The word of a value that is to be stored. */
+static inline uint64_t lru_word_of_key(const lru_key *value) {
+    const uint64_t word = LRU_RECAST(uint64_t, value);
+    lru_before_release(LRU_RECAST(void *, word));
+    return word;
 }
 
 LRU_INLINE lru_found lru_reader_pin_bytes(lru_reader *reader, const void *key, size_t length,
@@ -1159,7 +1237,7 @@ LRU_INLINE lru_found lru_clock_insert_bytes(lru_clock *clock, uint64_t hash, uin
     if (lru_key_is_null(value->bytes, value->length))
         return lru_found_bare(LRU_NULL_KEY);
     return lru_clock_insert(clock, lru_clock_mixed(hash), hash, value->length, charge,
-                            LRU_RECAST(uint64_t, value), strict, left);
+                            lru_word_of_key(value), strict, left);
 }
 
 LRU_INLINE lru_found lru_clock_begin_bytes(lru_clock *clock, const void *key, size_t length,
@@ -1185,8 +1263,8 @@ LRU_INLINE lru_found lru_clock_ready_bytes(lru_clock *clock, uint64_t ticket, ui
                                            uint64_t charge, const lru_key *value, bool strict) {
     if (lru_key_is_null(value->bytes, value->length))
         return lru_found_bare(LRU_NULL_KEY);
-    return lru_clock_ready(clock, ticket, lru_clock_mixed(hash), charge,
-                           LRU_RECAST(uint64_t, value), strict);
+    return lru_clock_ready(clock, ticket, lru_clock_mixed(hash), charge, lru_word_of_key(value),
+                           strict);
 }
 
 LRU_INLINE lru_code lru_clock_erase_bytes(lru_clock *clock, size_t length, uint64_t hash,

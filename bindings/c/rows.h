@@ -952,6 +952,125 @@ static void FAMILY(entries)(void) {
     CHECK(lru_cache_entries(&s.cache, all, 3).code, LRU_CLOSED);
 }
 
+/* Makes the entry of a pin ready with a charge, and returns the number of entries that this
+ * evicts. */
+static size_t FAMILY(give_with)(FAMILY(stage) *s, lru_pin pin, uint64_t value, uint64_t charge,
+                                bool strict) {
+    CHECK(lru_cache_ready_with(&s->cache, pin, value, charge, strict, &s->gone), LRU_DONE);
+    return FAMILY(note)(s);
+}
+
+/* ready_with: the charge that is told with the value takes the place of the first one. */
+static void FAMILY(readies_with)(void) {
+    FAMILY(stage) s;
+    lru_told told;
+
+    FAMILY(open)(&s, 10);
+    FAMILY(make)(&s, 1, 3);
+    FAMILY(make)(&s, 2, 3);
+    FAMILY(make)(&s, 3, 3);
+
+    /* a larger one: the oldest leave, and no more than must */
+    told = FAMILY(ask)(&s, 4, 1);
+    CHECK(FAMILY(ask)(&s, 4, 1).code, LRU_WAIT);
+    CHECK(FAMILY(note)(&s), 0);
+    CHECK(FAMILY(give_with)(&s, told.pin, 40, 5, false), 2);
+    EVICTED(&s, 1, 2);
+    CHECK(FAMILY(total_of)(&s), 8);
+    CHECK(FAMILY(pinned_of)(&s), 5);
+    FAMILY(check_entry)(&s, told.pin, 40, 5, 2, 0);
+    CHECK(lru_cache_poll(&s.cache, told.pin).value, 40);
+    CHECK(FAMILY(let_go)(&s, told.pin), 0);
+    CHECK(FAMILY(let_go)(&s, told.pin), 0);
+    CHECK(FAMILY(finds)(&s, 4, 40), true);
+
+    /* a smaller one, and the same */
+    told = FAMILY(ask)(&s, 5, 2);
+    CHECK(FAMILY(give_with)(&s, told.pin, 50, 1, true), 0);
+    CHECK(FAMILY(total_of)(&s), 9);
+    CHECK(FAMILY(let_go)(&s, told.pin), 0);
+    told = FAMILY(ask)(&s, 6, 1);
+    CHECK(FAMILY(give_with)(&s, told.pin, 60, 1, true), 0);
+    CHECK(FAMILY(total_of)(&s), 10);
+    CHECK(FAMILY(let_go)(&s, told.pin), 0);
+    EVICTED(&s, 1, 2);
+
+    /* above the capacity: all idle entries leave, and this one with its pin */
+    told = FAMILY(ask)(&s, 5, 9);
+    CHECK(told.code, LRU_HIT);
+    CHECK(FAMILY(let_go)(&s, told.pin), 0);
+    told = FAMILY(ask)(&s, 7, 1);
+    EVICTED(&s, 1, 2, 3);
+    CHECK(FAMILY(give_with)(&s, told.pin, 70, 11, false), 3);
+    EVICTED(&s, 1, 2, 3, 40, 60, 50);
+    CHECK(FAMILY(total_of)(&s), 11);
+    CHECK(FAMILY(let_go)(&s, told.pin), 1);
+    CHECK(FAMILY(total_of)(&s), 0);
+
+    /* taken away from its key meanwhile */
+    told = FAMILY(ask)(&s, 8, 1);
+    CHECK(FAMILY(invalidate)(&s.cache, KEY(8), &s.gone), LRU_DONE);
+    CHECK(FAMILY(give_with)(&s, told.pin, 80, 4, true), 0);
+    FAMILY(check_entry)(&s, told.pin, 80, 4, 1, 1);
+    CHECK(FAMILY(finds)(&s, 8, 80), false);
+    CHECK(FAMILY(let_go)(&s, told.pin), 1);
+    FAMILY(close)(&s);
+}
+
+/* Refuses a ready_with of a pin, and checks that nothing has changed. */
+static void FAMILY(is_refused)(FAMILY(stage) *s, lru_pin pin, uint64_t charge, bool strict,
+                               lru_code code) {
+    lru_stats before, after;
+
+    CHECK(lru_cache_stats(&s->cache, &before), LRU_DONE);
+    CHECK(lru_cache_ready_with(&s->cache, pin, 99, charge, strict, &s->gone), code);
+    CHECK(lru_chain_is_empty(&s->gone), true);
+    CHECK(lru_cache_stats(&s->cache, &after), LRU_DONE);
+    CHECK(memcmp(&before, &after, sizeof before), 0);
+}
+
+/* A ready_with that is refused: the value is still being made. */
+static void FAMILY(refuses_charges)(void) {
+    FAMILY(stage) s;
+    lru_pin first, second;
+
+    FAMILY(open)(&s, 10);
+    first = FAMILY(hold)(&s, 1, 4);
+    FAMILY(make)(&s, 2, 3);
+    second = FAMILY(ask)(&s, 3, 3).pin;
+
+    /* with the other held entry the charge is too much; its own first charge does not count */
+    FAMILY(is_refused)(&s, second, 7, true, LRU_FULL);
+    FAMILY(is_refused)(&s, second, UINT64_MAX, true, LRU_FULL);
+    FAMILY(is_refused)(&s, second, UINT64_MAX - 6, false, LRU_OVERFLOW);
+    FAMILY(is_refused)(&s, second, 0, false, LRU_NO_CHARGE);
+    FAMILY(is_refused)(&s, second, 0, true, LRU_NO_CHARGE);
+    CHECK(FAMILY(ask)(&s, 3, 9).code, LRU_WAIT);
+
+    /* a pin of an entry that has a value, that is idle or that is none */
+    FAMILY(is_refused)(&s, first, 1, false, LRU_STALE);
+    FAMILY(is_refused)(&s, first, 11, true, LRU_STALE);
+    FAMILY(is_refused)(&s, pin_of(1), 1, false, LRU_STALE);
+    FAMILY(is_refused)(&s, pin_of(99), UINT64_MAX, true, LRU_STALE);
+    FAMILY(is_refused)(&s, pin_of(99), 0, false, LRU_NO_CHARGE);
+
+    /* the making can fail, and another caller takes it over */
+    CHECK(lru_cache_fail(&s.cache, second), LRU_LEFT);
+    FAMILY(is_refused)(&s, second, 1, false, LRU_STALE);
+    CHECK(lru_cache_poll(&s.cache, second).code, LRU_MAKE);
+    CHECK(FAMILY(give_with)(&s, second, 30, 6, true), 1);
+    EVICTED(&s, 2);
+    CHECK(FAMILY(total_of)(&s), 10);
+    FAMILY(is_refused)(&s, second, 6, false, LRU_STALE);
+
+    /* the largest total */
+    second = FAMILY(ask)(&s, 4, 2).pin;
+    FAMILY(is_refused)(&s, second, UINT64_MAX - 9, false, LRU_OVERFLOW);
+    CHECK(FAMILY(give_with)(&s, second, 40, UINT64_MAX - 10, false), 0);
+    CHECK(FAMILY(total_of)(&s), UINT64_MAX);
+    FAMILY(close)(&s);
+}
+
 /* What free hands out: idle entries, oldest first, then those that are held, each once. */
 static void FAMILY(frees)(void) {
     FAMILY(stage) s;
@@ -1001,6 +1120,8 @@ static void FAMILY(misuse)(void) {
     CHECK(FAMILY(begin)(&closed, KEY(1), 1, false, &s.gone).code, LRU_CLOSED);
     CHECK(lru_cache_poll(&closed, pin_of(0)).code, LRU_CLOSED);
     CHECK(lru_cache_ready(&closed, pin_of(0), 1), LRU_CLOSED);
+    CHECK(lru_cache_ready_with(&closed, pin_of(0), 1, 1, false, &s.gone), LRU_CLOSED);
+    CHECK(lru_cache_ready_with(&closed, pin_of(0), 1, 0, true, &s.gone), LRU_CLOSED);
     CHECK(lru_cache_fail(&closed, pin_of(0)), LRU_CLOSED);
     CHECK(FAMILY(get)(&closed, KEY(1)).code, LRU_CLOSED);
     CHECK(FAMILY(contains)(&closed, KEY(1)), LRU_CLOSED);
@@ -1024,6 +1145,7 @@ static void FAMILY(misuse)(void) {
 
     /* a chain that is not open */
     CHECK(FAMILY(begin)(&s.cache, KEY(1), 1, false, &shut).code, LRU_CLOSED);
+    CHECK(lru_cache_ready_with(&s.cache, pin_of(0), 1, 1, false, &shut), LRU_CLOSED);
     CHECK(lru_cache_release(&s.cache, pin_of(0), &shut), LRU_CLOSED);
     CHECK(lru_cache_release_and_evict(&s.cache, pin_of(0), &shut), LRU_CLOSED);
     CHECK(FAMILY(advice_evict)(&s.cache, KEY(1), &shut), LRU_CLOSED);
@@ -1056,6 +1178,8 @@ static void FAMILY(misuse)(void) {
     CHECK(FAMILY(advice_evict)(&s.cache, KEY(1), &s.gone), LRU_DONE);
     CHECK(lru_chain_is_empty(&s.gone), false);
     CHECK(FAMILY(begin)(&s.cache, KEY(3), 1, false, &s.gone).code, LRU_NOT_EMPTY);
+    CHECK(lru_cache_ready_with(&s.cache, pin, 1, 1, false, &s.gone), LRU_NOT_EMPTY);
+    CHECK(lru_cache_ready_with(&s.cache, pin, 1, 0, true, &s.gone), LRU_NOT_EMPTY);
     CHECK(lru_cache_release(&s.cache, pin, &s.gone), LRU_NOT_EMPTY);
     CHECK(lru_cache_release_and_evict(&s.cache, pin, &s.gone), LRU_NOT_EMPTY);
     CHECK(FAMILY(advice_evict)(&s.cache, KEY(2), &s.gone), LRU_NOT_EMPTY);
@@ -1109,6 +1233,8 @@ static void FAMILY(rows)(void) {
     FAMILY(repins)();
     FAMILY(releases_and_evicts)();
     FAMILY(entries)();
+    FAMILY(readies_with)();
+    FAMILY(refuses_charges)();
     FAMILY(frees)();
     FAMILY(misuse)();
 }

@@ -335,9 +335,23 @@ static void counts(void) {
     CHECK(told.code, LRU_DONE);
     CHECK_STATS(cache, 3, 5, 2, 5, 2, 1, 2, 2, 2, 2);
 
+    /* a charge that is told with the value: only what it evicts is counted */
+    CHECK(lru_cache_release(&cache, told.pin, &gone), LRU_DONE);
+    told = lru_words_begin(&cache, 5, 5, 1, false, &gone);
+    CHECK(told.code, LRU_MAKE);
+    CHECK(lru_chain_pop(&gone, &entry), true);
+    CHECK(entry.value, 40);
+    CHECK_STATS(cache, 3, 6, 2, 6, 3, 1, 2, 2, 2, 2);
+    CHECK(lru_cache_ready_with(&cache, told.pin, 50, 2, true, &gone), LRU_FULL);
+    CHECK_STATS(cache, 3, 6, 2, 6, 3, 1, 2, 2, 2, 2);
+    CHECK(lru_cache_ready_with(&cache, told.pin, 50, 2, false, &gone), LRU_DONE);
+    CHECK_STATS(cache, 3, 6, 2, 6, 3, 1, 2, 3, 3, 2);
+    told = lru_words_insert(&cache, 5, 5, 1, 60, false, &gone);
+    CHECK(told.code, LRU_DONE);
+
     CHECK(lru_cache_free(&cache, &gone), LRU_DONE);
     while (lru_chain_pop(&gone, &entry))
-        CHECK(entry.value == 30 || entry.value == 40, true);
+        CHECK(entry.value == 30 || entry.value == 50 || entry.value == 60, true);
     CHECK(lru_cache_stats(&cache, &kept), LRU_CLOSED);
     CHECK(kept.hits, 1);
     CHECK(lru_chain_free(&gone), LRU_DONE);

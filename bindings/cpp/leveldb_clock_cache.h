@@ -30,9 +30,10 @@
 //
 // Of the clock less is proved than of the other caches: THE CLOCK in lru.h says what. This header
 // and those it includes add the mutexes, the readers of threads and the entries. They are ordinary
-// C++, tested beside LevelDB's own cache, with threads, and with AddressSanitizer and UBSan.
-// Nothing here throws, and the header compiles with -fno-exceptions. If LevelDB was built without
-// run-time type information, compile the file that includes this header with -fno-rtti.
+// C++, tested beside LevelDB's own cache, with threads, and with AddressSanitizer, UBSan and
+// ThreadSanitizer. Nothing here throws, and the header compiles with -fno-exceptions. If LevelDB
+// was built without run-time type information, compile the file that includes this header with
+// -fno-rtti.
 #ifndef LRU_LEVELDB_CLOCK_CACHE_H
 #define LRU_LEVELDB_CLOCK_CACHE_H
 

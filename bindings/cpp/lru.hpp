@@ -86,7 +86,7 @@ struct Stats {
   std::uint64_t pinned_charge = 0;
   std::uint64_t capacity = 0;
   std::uint64_t loads = 0;             // values that were made, by an `init` or with a maker
-  std::uint64_t load_failures = 0;     // values that could not be made
+  std::uint64_t load_failures = 0;     // values that could not be made, or were refused then
   std::uint64_t load_nanoseconds = 0;  // the time that these took in all, from the beginning of the
                                        // making to its end; 0 without set_load_times
 
@@ -251,6 +251,9 @@ struct Notice {
 
 struct ByInit {};
 
+// A charge for the beginning of a making whose charge is told with the value.
+constexpr std::uint64_t kUnknownCharge = 1;
+
 // A value of a Cache, on the heap.
 template <class Value, class Key>
 struct Node {
@@ -390,9 +393,9 @@ class Handle {
 // the key wait meanwhile. A maker that is destroyed before `ready` fails: the cache keeps no entry,
 // or one of those that wait makes the value.
 //
-// A maker is moved, not copied. It is empty once it has been moved from, or has ended by `ready` or
-// `fail`. It may be used and destroyed on any thread, by one thread at a time, and must not outlive
-// its cache.
+// A maker is moved, not copied. It is empty once it has been moved from, or has ended by `ready`,
+// `ready_with` or `fail`. It may be used and destroyed on any thread, by one thread at a time, and
+// must not outlive its cache.
 template <class Value, class Key>
 class Maker {
  public:
@@ -422,6 +425,22 @@ class Maker {
                   "lru: ready is called with what the value can be constructed from");
     if (cache_ == nullptr) throw std::logic_error("lru: ready is called on an empty maker");
     return cache_->ready(this, std::make_unique<Node>(std::in_place, std::forward<Args>(args)...));
+  }
+
+  // Constructs the value as `ready` does, and gives it this charge, above 0, in place of the one
+  // with which the making was begun. Idle values that exceed the capacity then are evicted.
+  //
+  // Also throws ZeroCharge, Overflow, and Full if the limit is strict and there is no room for the
+  // charge beside the other pinned values. The value is deleted then, nothing is evicted, and the
+  // maker has failed.
+  template <class... Args>
+  Handle<Value, Key> ready_with(std::uint64_t charge, Args&&... args) {
+    static_assert(std::is_constructible_v<Value, Args...>,
+                  "lru: ready_with is called with a charge and what the value can be constructed "
+                  "from");
+    if (cache_ == nullptr) throw std::logic_error("lru: ready_with is called on an empty maker");
+    auto made = std::make_unique<Node>(std::in_place, std::forward<Args>(args)...);
+    return cache_->ready_with(this, std::move(made), charge);
   }
 
   // Gives up, as the destructor does. Of an empty maker, nothing.
@@ -578,11 +597,36 @@ class Cache {
     return ready(&maker, std::make_unique<Node>(detail::ByInit(), std::forward<Init>(init), key));
   }
 
+  // Does what get_or_init does, for a charge that is not known before the value: `init(key)`
+  // returns a std::pair, or another pair to be taken apart, of what the value is constructed from
+  // and its charge.
+  //
+  //   auto page = cache.get_or_init_with("a key", [](std::string_view key) {
+  //     Page page(key);
+  //     const std::uint64_t charge = page.bytes();
+  //     return std::pair(std::move(page), charge);
+  //   });
+  //
+  // While it is made, the value counts for 1. Throws what get_or_init throws, but before `init`
+  // runs Full only if there is no room for a charge of 1. Afterwards ZeroCharge, Overflow and Full
+  // are thrown as if by `init` if the cache refuses its charge, and the value is deleted.
+  template <class Init>
+  Handle get_or_init_with(Argument key, Init&& init) {
+    static_assert(std::is_invocable_v<Init, const Key&>,
+                  "lru: init is called with the key, as `[](const Key& key) { .. }` can be");
+    Begun begun = begin(key, detail::kUnknownCharge);
+    if (begun.handle) return std::move(begun.handle);
+    auto [value, charge] = std::invoke(std::forward<Init>(init), std::as_const(key));
+    return begun.maker.ready_with(charge, std::forward<decltype(value)>(value));
+  }
+
   // Does what get_or_init does, but leaves it to the caller to make the value, at any time and on
   // any thread:
   //
   //   auto [page, maker] = cache.begin("a key", 1);
   //   if (maker) page = maker.ready(load("a key"));
+  //
+  // If the charge is not known yet, pass 1, and call Maker::ready_with later.
   //
   // Waits if another caller is making the value, so a thread that has a maker must not call this
   // with its key. Throws what get_or_init throws before `init` runs, and std::bad_alloc if there is
@@ -781,21 +825,8 @@ class Cache {
   // `try_begin` are counted as hits, misses and waits; `contains`, `insert` and `Handle::clone` are
   // not.
   Stats stats() const {
-    std::unique_lock<std::mutex> lock(mutex_);
-    const lru_stats told = core_.stats();
-    Stats stats = loads_;
-    lock.unlock();
-    stats.hits = told.hits - own_hits_;
-    stats.misses = told.misses;
-    stats.waits = told.waits;
-    stats.insertions = told.insertions;
-    stats.evictions = told.evictions;
-    stats.removals = told.removals;
-    stats.entries = told.entries;
-    stats.charge = told.charge;
-    stats.pinned_charge = told.pinned_charge;
-    stats.capacity = told.capacity;
-    return stats;
+    const std::lock_guard<std::mutex> lock(mutex_);
+    return counted();
   }
 
   // Sets the capacity. Idle values that exceed it are evicted at once.
@@ -812,6 +843,24 @@ class Cache {
     const lru_code code = core_.reserve(entries);
     lock.unlock();
     if (code != LRU_DONE) detail::throw_refusal(code);
+  }
+
+  // Gives back the memory of the tables if there is no value, as after `prune` or `clear` if no
+  // handle is left, and returns whether it did. Tables have room for as many values as there ever
+  // were at once, or as were reserved, and otherwise keep it. Throws OutOfMemory; nothing changes
+  // then.
+  bool shrink_to_fit() {
+    std::unique_lock<std::mutex> lock(mutex_);
+    if (core_.len() != 0) return false;
+    const Stats before = counted();
+    const lru_code code = core_.reopen(seed_);
+    if (code == LRU_DONE) {
+      counts_ = before;
+      own_hits_ = 0;
+    }
+    lock.unlock();
+    if (code != LRU_DONE) detail::throw_refusal(code);
+    return true;
   }
 
   // Sets whether the capacity is a strict limit. Evicts nothing: pinned values whose total is above
@@ -929,32 +978,75 @@ class Cache {
   // Gives the node to the core. It is never refused: its caller is the one that makes the value.
   Handle ready(Maker* maker, std::unique_ptr<Node> made) noexcept {
     const std::uint64_t time = detail::nanoseconds_since(maker->start_);
-    Node* const node = made.release();
-    if (listener_) node->notice = std::move(maker->notice_);
     std::unique_lock<std::mutex> lock(mutex_);
-    delist(maker);
-    loads_.loads++;
-    loads_.load_nanoseconds += time;
-    [[maybe_unused]] const lru_code code = core_.ready(maker->pin_, node);
-    const bool is_awaited = waiting_ > 0 && core_.entry(maker->pin_).pins > 1;
-    if (listener_ && core_.entry(maker->pin_).is_detached != 0) mark(node, Reason::kInvalidated);
-    lock.unlock();
+    [[maybe_unused]] const lru_code code = core_.ready(maker->pin_, made.get());
     assert(code == LRU_DONE);
-    if (is_awaited) ended_.notify_all();
-    return Handle(this, maker->pin_, std::addressof(node->value));
+    return end_ready(maker, made.release(), time, &lock);
+  }
+
+  // The same with a charge. If the core refuses that, the making has failed.
+  Handle ready_with(Maker* maker, std::unique_ptr<Node> made, std::uint64_t charge) {
+    const std::uint64_t time = detail::nanoseconds_since(maker->start_);
+    Evicted evicted;
+    std::unique_lock<std::mutex> lock(mutex_);
+    const lru_code code = core_.ready_with(maker->pin_, made.get(), charge, &evicted);
+    if (code != LRU_DONE) {
+      end_fail(maker, time, &lock);
+      detail::throw_refusal(code);
+    }
+    return end_ready(maker, made.release(), time, &lock);
   }
 
   void fail(Maker* maker) noexcept {
     const std::uint64_t time = detail::nanoseconds_since(maker->start_);
     std::unique_lock<std::mutex> lock(mutex_);
+    end_fail(maker, time, &lock);
+  }
+
+  // These end a making, and release the lock.
+
+  // The core has the node.
+  Handle end_ready(Maker* maker, Node* node, std::uint64_t time,
+                   std::unique_lock<std::mutex>* lock) noexcept {
     delist(maker);
-    loads_.load_failures++;
-    loads_.load_nanoseconds += time;
+    counts_.loads++;
+    counts_.load_nanoseconds += time;
+    const bool is_awaited = waiting_ > 0 && core_.entry(maker->pin_).pins > 1;
+    if (listener_) {
+      node->notice = std::move(maker->notice_);
+      if (core_.entry(maker->pin_).is_detached != 0) mark(node, Reason::kInvalidated);
+    }
+    lock->unlock();
+    if (is_awaited) ended_.notify_all();
+    return Handle(this, maker->pin_, std::addressof(node->value));
+  }
+
+  void end_fail(Maker* maker, std::uint64_t time, std::unique_lock<std::mutex>* lock) noexcept {
+    delist(maker);
+    counts_.load_failures++;
+    counts_.load_nanoseconds += time;
     const lru_code code = core_.fail(maker->pin_);
-    lock.unlock();
+    lock->unlock();
     maker->notice_.reset();
     assert(code == LRU_LEFT || code == LRU_REMOVED);
     if (code == LRU_LEFT) ended_.notify_all();
+  }
+
+  // What stats() returns. The caller holds the lock.
+  Stats counted() const {
+    const lru_stats told = core_.stats();
+    Stats stats = counts_;
+    stats.hits = detail::saturating_add(stats.hits, told.hits - own_hits_);
+    stats.misses = detail::saturating_add(stats.misses, told.misses);
+    stats.waits = detail::saturating_add(stats.waits, told.waits);
+    stats.insertions = detail::saturating_add(stats.insertions, told.insertions);
+    stats.evictions = detail::saturating_add(stats.evictions, told.evictions);
+    stats.removals = detail::saturating_add(stats.removals, told.removals);
+    stats.entries = told.entries;
+    stats.charge = told.charge;
+    stats.pinned_charge = told.pinned_charge;
+    stats.capacity = told.capacity;
+    return stats;
   }
 
   // The rest is for a listener. It is cold, so that a cache without one pays nothing for it.
@@ -1043,7 +1135,7 @@ class Cache {
   std::condition_variable ended_;  // notified when a value was made, or not, that others wait for
   std::size_t waiting_ = 0;        // how many callers wait there
   Maker* makers_ = nullptr;        // of the values that are being made
-  Stats loads_;                    // only the numbers of loads
+  Stats counts_;                   // of loads, and of what came before the last `reopen`
   bool times_loads_ = false;
   std::uint64_t own_hits_ = 0;     // hits of mark_invalidated
   const Listener listener_;        // nodes refer to it, so it is destroyed after them
@@ -1126,6 +1218,10 @@ class ShardedCache {
   template <class Init>
   Handle get_or_init(Argument key, std::uint64_t charge, Init&& init) {
     return shard(key).get_or_init(key, charge, std::forward<Init>(init));
+  }
+  template <class Init>
+  Handle get_or_init_with(Argument key, Init&& init) {
+    return shard(key).get_or_init_with(key, std::forward<Init>(init));
   }
   Begun begin(Argument key, std::uint64_t charge) { return shard(key).begin(key, charge); }
   Begun try_begin(Argument key, std::uint64_t charge) { return shard(key).try_begin(key, charge); }
@@ -1217,6 +1313,14 @@ class ShardedCache {
     for (Shard& shard : shards_) {
       shard.reserve(static_cast<std::size_t>(detail::share(entries, shards_.size())));
     }
+  }
+
+  // As Cache::shrink_to_fit for each shard, one after another. Whether all of them did. If one
+  // throws, the shards before it have been served.
+  bool shrink_to_fit() {
+    bool all = true;
+    for (Shard& shard : shards_) all &= shard.shrink_to_fit();
+    return all;
   }
 
   // Sets whether the capacity of each shard is a strict limit, one shard after another.

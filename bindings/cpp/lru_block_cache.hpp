@@ -33,8 +33,9 @@ struct BlockCacheOptions {
   // many such entries as the capacity has room for, which take from 48 to 80 bytes for each, and in
   // a cache over the clock from 122 to 154. Until there are more entries, no Insert makes a table
   // larger, which takes about 70 nanoseconds for each entry of the shard while its mutex is held.
-  // If there is no memory for the tables, the cache is not created. If this is 0, it is 4 KiB, but
-  // the tables are for 2^21 entries at most, and a cache over the clock has none at first.
+  // Tables never become smaller, even if all entries leave. If there is no memory for them, the
+  // cache is not created. If this is 0, it is 4 KiB, but the tables are for 2^21 entries at most,
+  // and a cache over the clock has none at first.
   std::size_t typical_charge = 0;
 
   // Whether each entry also counts about as many bytes as the cache itself takes for it: 224 under

@@ -10,8 +10,9 @@
 //     is specialised with a `written` that returns Words.
 //   - Values are evicted in about the order of their last uses, and not exactly. A value that is
 //     used often is spared several times.
-//   - The end of a handle evicts nothing. If pinned values take the total above the capacity, the
-//     next call that adds a value, or set_capacity, evicts down to it.
+//   - The end of a handle evicts down to the capacity if the total is above it, as there. But if
+//     another thread looks the value up at the same time, that may be left to the next call that
+//     adds a value.
 //   - A value counts once it has been made: values are evicted for it then, and not before `init`
 //     runs. Its charge is that of the call that made it.
 //   - A strict limit may refuse a value once it was made, if others took its room meanwhile. Values
@@ -22,11 +23,11 @@
 //   - `read` calls its function without the lock. `contains` is a use of the value. No call tells
 //     how many handles a value has.
 //   - `stats` counts what is made, added and evicted, but no hits, misses and waits.
-//   - There is no advice_evict or release_and_evict, and no hash of the program's own.
+//   - There is no hash of the program's own.
 //
 // Of the clock of lru.h less is proved than of the other caches: THE CLOCK there says what. This
 // header adds the locks, the waiting and the values. It is ordinary C++, tested with
-// AddressSanitizer and UBSan.
+// AddressSanitizer, UBSan and ThreadSanitizer, which it tells what the library orders.
 //
 // Requires what lru.hpp requires.
 #ifndef CONCURRENT_LRU_CLOCK_HPP
@@ -137,10 +138,17 @@ class ClockHandle {
     return cache_ == nullptr ? ClockHandle() : cache_->repin(shard_, place_);
   }
 
-  // Releases the value; the handle is empty then. Takes the lock only if the value was invalidated
-  // or replaced and this was its last handle: it is deleted then.
+  // Releases the value; the handle is empty then. Without its last handle the value is idle, and
+  // may be evicted. Takes the lock only if this was the last handle and a value has to leave: this
+  // one, if it was invalidated or replaced, or others too, if the total is above the capacity.
   void reset() noexcept {
     if (cache_ != nullptr) std::exchange(cache_, nullptr)->release(shard_, place_);
+  }
+
+  // Releases the value as `reset` does, but takes the lock, and if this was its last handle, the
+  // value is evicted at once. If the value has another handle, this is the same as `reset`.
+  void release_and_evict() noexcept {
+    if (cache_ != nullptr) std::exchange(cache_, nullptr)->release_and_evict(shard_, place_);
   }
 
   // Exchanges the values of two handles.
@@ -170,9 +178,9 @@ class ClockHandle {
 // Cache. Other callers that ask for the key wait meanwhile. A maker that is destroyed before
 // `ready` fails: the cache keeps no entry, and one of those that wait makes the value.
 //
-// A maker is moved, not copied. It is empty once it has been moved from, or has ended by `ready` or
-// `fail`. It may be used and destroyed on any thread, by one thread at a time, and must not outlive
-// its cache.
+// A maker is moved, not copied. It is empty once it has been moved from, or has ended by `ready`,
+// `ready_with` or `fail`. It may be used and destroyed on any thread, by one thread at a time, and
+// must not outlive its cache.
 template <class Value, class Key>
 class ClockMaker {
  public:
@@ -205,6 +213,19 @@ class ClockMaker {
                   "lru: ready is called with what the value can be constructed from");
     if (cache_ == nullptr) throw std::logic_error("lru: ready is called on an empty maker");
     return cache_->ready(this, std::make_unique<Node>(std::in_place, std::forward<Args>(args)...));
+  }
+
+  // Does what `ready` does, with this charge, above 0, in place of the one with which the making
+  // was begun. Also throws ZeroCharge, and the maker has failed then.
+  template <class... Args>
+  ClockHandle<Value, Key> ready_with(std::uint64_t charge, Args&&... args) {
+    static_assert(std::is_constructible_v<Value, Args...>,
+                  "lru: ready_with is called with a charge and what the value can be constructed "
+                  "from");
+    if (cache_ == nullptr) throw std::logic_error("lru: ready_with is called on an empty maker");
+    auto made = std::make_unique<Node>(std::in_place, std::forward<Args>(args)...);
+    charge_ = charge;
+    return cache_->ready(this, std::move(made));
   }
 
   // Gives up, as the destructor does. Of an empty maker, nothing.
@@ -366,7 +387,7 @@ class alignas(64) ClockCache {
     if (charge == 0) detail::throw_refusal(LRU_NO_CHARGE);
     const Hashed hashed = hash(key);
     lru_reader* const reader = shards_.mine(hashed.shard);
-    lru_found found = Shards::pin(reader, hashed);
+    lru_found found = shards_.pin(reader, hashed);
     if (found.code == LRU_HIT) return handle(found, hashed.shard);
     Maker maker;
     found = begin(hashed, charge, closed(reader, found), true, &maker);
@@ -374,11 +395,27 @@ class alignas(64) ClockCache {
     return ready(&maker, std::make_unique<Node>(detail::ByInit(), std::forward<Init>(init), key));
   }
 
+  // Does what get_or_init does, for a charge that is not known before the value, as
+  // Cache::get_or_init_with. Throws what get_or_init throws, but before `init` runs Full only if
+  // there is no room for a charge of 1. If `init` returns a charge of 0, ZeroCharge is thrown as if
+  // by `init`.
+  template <class Init>
+  Handle get_or_init_with(Argument key, Init&& init) {
+    static_assert(std::is_invocable_v<Init, const Key&>,
+                  "lru: init is called with the key, as `[](const Key& key) { .. }` can be");
+    Begun begun = begin(key, detail::kUnknownCharge);
+    if (begun.handle) return std::move(begun.handle);
+    auto [value, charge] = std::invoke(std::forward<Init>(init), std::as_const(key));
+    return begun.maker.ready_with(charge, std::forward<decltype(value)>(value));
+  }
+
   // Does what get_or_init does, but leaves it to the caller to make the value, at any time and on
   // any thread:
   //
   //   auto [page, maker] = cache.begin(7, 1);
   //   if (maker) page = maker.ready(load(7));
+  //
+  // If the charge is not known yet, pass 1, and call ClockMaker::ready_with later.
   //
   // Waits if another caller is making the value, so a thread that has a maker must not call this
   // with its key. Throws what get_or_init throws before `init` runs.
@@ -411,6 +448,7 @@ class alignas(64) ClockCache {
     Lock lock(shard.mutex);
     Node* const old = listed(&shard, hashed, &evicted);
     const lru_found found = shard.insert(hashed, charge, node.get(), &evicted);
+    shard.settle(&evicted);
     if (found.code != LRU_DONE) detail::throw_refusal(found.code);
     if (old != nullptr) old->reason = Reason::kReplaced;
     const bool is_awaited = take_from_maker(shard, hashed.words);
@@ -436,6 +474,18 @@ class alignas(64) ClockCache {
     const bool is_awaited = detach(&shard, hashed, Reason::kInvalidated, &evicted);
     lock.unlock();
     if (is_awaited) shard.ended.notify_all();
+  }
+
+  // Evicts the key's value if it is idle. If it has a handle, nothing changes, except that this is
+  // a use of the value.
+  void advice_evict(Argument key) {
+    const Hashed hashed = hash(key);
+    Shard& shard = shards_[hashed.shard];
+    Evicted evicted(this);
+    const Lock lock(shard.mutex);
+    const lru_found found = shard.find(hashed);
+    // Otherwise there is no value, or it has about 2^30 handles.
+    if (found.code == LRU_HIT) shard.unpin_and_evict(found.place, &evicted);
   }
 
   // Evicts every idle value, one shard after another.
@@ -662,7 +712,7 @@ class alignas(64) ClockCache {
   // Misses no value, as a look-up without the lock may while the clock is written.
   Handle find(const Hashed& key) const {
     lru_reader* const reader = shards_.mine(key.shard);
-    lru_found found = Shards::pin(reader, key);
+    lru_found found = shards_.pin(reader, key);
     if (found.code != LRU_HIT) {
       found = shards_.find_locked(key, closed(reader, found));
       if (found.code == LRU_MISSED) return Handle();
@@ -680,8 +730,8 @@ class alignas(64) ClockCache {
 
   void release(std::uint32_t shard, std::uint32_t place) const noexcept {
     lru_reader* const reader = shards_.mine(shard);
-    const lru_code code = Shards::unpin(reader, place);
-    if (code != LRU_DONE && code != LRU_ABOVE) release_locked(shard, place, reader, code);
+    const lru_code code = shards_.unpin(reader, shard, place);
+    if (code != LRU_DONE) release_locked(shard, place, reader, code);
   }
 
   // Tells the listener of the nodes of a list. What it throws is dropped: the values leave whatever
@@ -710,12 +760,19 @@ class alignas(64) ClockCache {
     shard.end_unpin(place, reader, code, &evicted);
   }
 
+  void release_and_evict(std::uint32_t number, std::uint32_t place) const noexcept {
+    Shard& shard = shards_[number];
+    Evicted evicted(this);
+    const Lock lock(shard.mutex);
+    shard.unpin_and_evict(place, &evicted);
+  }
+
   Begun begin(Argument key, std::uint64_t charge, bool waits) {
     Begun begun;
     if (charge == 0) detail::throw_refusal(LRU_NO_CHARGE);
     const Hashed hashed = hash(key);
     lru_reader* const reader = shards_.mine(hashed.shard);
-    lru_found found = Shards::pin(reader, hashed);
+    lru_found found = shards_.pin(reader, hashed);
     if (found.code != LRU_HIT) {
       found = begin(hashed, charge, closed(reader, found), waits, &begun.maker);
     }
@@ -766,10 +823,12 @@ class alignas(64) ClockCache {
     made->key = key.words;
     made->charge = maker->charge_;
     if (maker->is_detached_) made->reason = Reason::kInvalidated;
-    const lru_found found = lru_clock_ready(&shard.clock, maker->ticket_, key.hash, maker->charge_,
-                                            detail::word_of(made.get()), shard.is_strict);
-    // The making of a value for which there is no room would go on.
-    if (found.code == LRU_FULL) lru_clock_fail(&shard.clock, maker->ticket_);
+    const lru_found found = shard.ready(key, maker->ticket_, maker->charge_, made.get());
+    // The making of a value for which there is no room, or without a charge, would go on.
+    if (found.code == LRU_FULL || found.code == LRU_NO_CHARGE) {
+      lru_clock_fail(&shard.clock, maker->ticket_);
+    }
+    shard.settle(&evicted);
     delist(maker);
     const bool is_awaited = maker->is_awaited_;
     lock.unlock();

@@ -135,7 +135,7 @@ class ClockBlocks {
   // thread changes the shard, and misses one that has about 2^30 handles.
   Entry* Find(const Slice& key) const {
     const ClockKey hashed = Hashed(key);
-    const lru_found found = Shards::pin(shards_.mine(hashed.shard), hashed);
+    const lru_found found = shards_.pin(shards_.mine(hashed.shard), hashed);
     if (found.code == LRU_CLOSED) return FindLocked(key);
     return Told(found);
   }
@@ -154,7 +154,7 @@ class ClockBlocks {
     if (!entry->is_cached) return ReleaseUncached(entry);
     const std::uint32_t place = entry->place(), shard = entry->shard;
     lru_reader* const mine = shards_.mine(shard);
-    const lru_code code = Shards::unpin(mine, place);
+    const lru_code code = shards_.unpin(mine, shard, place);
     if (code == LRU_DONE) return false;
     return EndRelease(entry, shard, place, mine, code);
   }
@@ -308,7 +308,7 @@ class ClockBlocks {
       // A visitor may find it at once.
       entry->is_cached = true;
       entry->SetDetached(true);
-      found = lru_clock_ready(&shard_.clock, found.value, key.hash, charge, word_of(entry), false);
+      found = shard_.ready(key, found.value, charge, entry);
       if (found.code == LRU_DONE) {
         entry->SetPlace(found.place);
         shard_.detached++;
@@ -325,7 +325,6 @@ class ClockBlocks {
     // may have left before this call, and is not read.
     bool EndRelease(const Entry* entry, std::uint32_t place, lru_reader* mine, lru_code code) {
       code = shard_.end_unpin(place, mine, code, &leaving_);
-      if (code == LRU_ABOVE) shard_.make_room(0, &leaving_);
       return code == LRU_LAST || leaving_.Has(entry);
     }
 

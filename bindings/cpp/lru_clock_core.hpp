@@ -169,6 +169,11 @@ struct ClockKey {
 // Shards do not share cache lines, so that threads at different shards do not slow each other, and
 // a hit reads nothing of them.
 //
+// ThreadSanitizer is told (lru_before_release in lru.h) that what a thread has done before it adds
+// a value or gives back a pin comes before what another one does once it has pinned a value of the
+// same shard or taken it out. So it may miss races of threads that use different values of a shard,
+// as it would if each call took the mutex.
+//
 // The caller of each member holds the mutex. `Evicted` is a list with `add(Node*)`, which takes the
 // nodes that leave.
 template <class NodeOfCache>
@@ -197,6 +202,7 @@ struct alignas(64) ClockShard {
 
   // Pins a new value of a key, or the one that it has: LRU_HIT.
   lru_found add(const ClockKey& key, std::uint64_t charge, Node* node) noexcept {
+    lru_before_release(&clock);
     return lru_clock_add(&clock, key.hash, key.words.first, key.words.second, charge, word_of(node),
                          is_strict);
   }
@@ -208,6 +214,7 @@ struct alignas(64) ClockShard {
                    Evicted* evicted) noexcept {
     lru_left left;
     lru_found found;
+    lru_before_release(&clock);
     do {
       found = lru_clock_insert(&clock, key.hash, key.words.first, key.words.second, charge,
                                word_of(node), is_strict, &left);
@@ -215,6 +222,13 @@ struct alignas(64) ClockShard {
     } while (found.code == LRU_GONE);
     if (found.code == LRU_REPLACED) found.code = LRU_DONE;
     return found;
+  }
+
+  // Pins a value that was made with a ticket: LRU_DONE.
+  lru_found ready(const ClockKey& key, std::uint64_t ticket, std::uint64_t charge,
+                  Node* node) noexcept {
+    lru_before_release(&clock);
+    return lru_clock_ready(&clock, ticket, key.hash, charge, word_of(node), is_strict);
   }
 
   // Whether the capacity has room for another charge.
@@ -232,6 +246,13 @@ struct alignas(64) ClockShard {
     while (lru_clock_make_room(&clock, charge, &left) == LRU_GONE) take(left, evicted);
   }
 
+  // Evicts down to the capacity. Comes also after a value was added: if it found no room, whoever
+  // gave a pin back in between was not told that the total is above the capacity.
+  template <class Evicted>
+  void settle(Evicted* evicted) noexcept {
+    make_room(0, evicted);
+  }
+
   // Evicts all that is not pinned.
   template <class Evicted>
   void prune(Evicted* evicted) noexcept {
@@ -243,7 +264,7 @@ struct alignas(64) ClockShard {
   template <class Evicted>
   void set_capacity(std::uint64_t capacity, Evicted* evicted) noexcept {
     lru_clock_set_capacity(&clock, capacity);
-    make_room(0, evicted);
+    settle(evicted);
   }
 
   // Takes the value of a key away, and the making of one. The value leaves at once unless it is
@@ -263,16 +284,9 @@ struct alignas(64) ClockShard {
     unpin(place, evicted);
   }
 
-  // Takes out the value at a place if its key was taken away and it is not pinned.
-  template <class Evicted>
-  void collect(std::uint32_t place, Evicted* evicted) noexcept {
-    lru_left left;
-    if (lru_clock_collect(&clock, place, &left) == LRU_GONE) take(left, evicted);
-  }
-
   template <class Evicted>
   void unpin(std::uint32_t place, Evicted* evicted) noexcept {
-    if (lru_reader_unpin(&reader, place) == LRU_LAST) collect(place, evicted);
+    finish_unpin(lru_reader_unpin(&reader, place), place, evicted);
   }
 
   // Gives a pin back, and takes out the value if that was its last pin.
@@ -283,8 +297,8 @@ struct alignas(64) ClockShard {
   }
 
   // Ends what an unpin without the mutex has begun, which answered with this code: gives the pin
-  // back, if the thread's reader was not open, and takes out the value if that was its last pin.
-  // Returns what that unpin answered.
+  // back, if the thread's reader was not open, and takes out what has to leave. Returns what that
+  // unpin answered.
   template <class Evicted>
   lru_code end_unpin(std::uint32_t place, lru_reader* mine, lru_code code,
                      Evicted* evicted) noexcept {
@@ -293,7 +307,7 @@ struct alignas(64) ClockShard {
       code = lru_reader_unpin(&reader, place);
     }
     assert(code == LRU_DONE || code == LRU_ABOVE || code == LRU_LAST);
-    if (code == LRU_LAST) collect(place, evicted);
+    finish_unpin(code, place, evicted);
     return code;
   }
 
@@ -320,8 +334,19 @@ struct alignas(64) ClockShard {
   bool is_strict = false;  // whether nothing is added that takes the total above the capacity
 
  private:
+  // Takes out what has to leave after an unpin that answered with this code.
   template <class Evicted>
-  static void take(const lru_left& left, Evicted* evicted) noexcept {
+  void finish_unpin(lru_code code, std::uint32_t place, Evicted* evicted) noexcept {
+    lru_left left;
+    if (code == LRU_ABOVE) settle(evicted);
+    if (code == LRU_LAST && lru_clock_collect(&clock, place, &left) == LRU_GONE) {
+      take(left, evicted);
+    }
+  }
+
+  template <class Evicted>
+  void take(const lru_left& left, Evicted* evicted) noexcept {
+    lru_after_acquire(&clock);
     evicted->add(node_of<Node>(left.value));
   }
 };
@@ -370,12 +395,15 @@ class ClockShards {
   lru_reader* mine(std::uint32_t shard) const noexcept { return lanes_.mine(shard); }
 
   // Pins the value of a key. May miss one while the clock is written.
-  static lru_found pin(lru_reader* mine, const ClockKey& key) noexcept {
+  lru_found pin(lru_reader* mine, const ClockKey& key) const noexcept {
     if (mine == nullptr) return {0, LRU_CLOSED, 0};
-    return lru_reader_pin(mine, key.hash, key.words.first, key.words.second);
+    const lru_found found = lru_reader_pin(mine, key.hash, key.words.first, key.words.second);
+    lru_after_acquire(&shards_[key.shard].clock);
+    return found;
   }
-  static lru_code unpin(lru_reader* mine, std::uint32_t place) noexcept {
+  lru_code unpin(lru_reader* mine, std::uint32_t number, std::uint32_t place) const noexcept {
     if (mine == nullptr) return LRU_CLOSED;
+    lru_before_release(&shards_[number].clock);
     return lru_reader_unpin(mine, place);
   }
 
@@ -393,10 +421,11 @@ class ClockShards {
   // Pins whatever value is at a place.
   lru_found pin_at(std::uint32_t number, std::uint32_t place) const noexcept {
     lru_reader* const mine = lanes_.mine(number);
+    Shard& shard = shards_[number];
     lru_found found = {0, LRU_CLOSED, 0};
     if (mine != nullptr) found = lru_reader_pin_at(mine, place);
+    lru_after_acquire(&shard.clock);
     if (found.code != LRU_CLOSED) return found;
-    Shard& shard = shards_[number];
     const std::lock_guard<Mutex> lock(shard.mutex);
     shard.open_reader(mine);
     return lru_reader_pin_at(&shard.reader, place);

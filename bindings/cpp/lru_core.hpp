@@ -310,8 +310,8 @@ class Core {
     take_evicted(evicted);
   }
 
-  // Whether the capacity is a strict limit, which at first it is not. If it is, calls of begin and
-  // insert are strict.
+  // Whether the capacity is a strict limit, which at first it is not. If it is, calls of begin,
+  // ready_with and insert are strict.
   void set_strict_limit(bool is_strict) noexcept { is_strict_ = is_strict; }
   bool is_limit_strict() const noexcept { return is_strict_; }
 
@@ -324,6 +324,14 @@ class Core {
   // After LRU_DONE the node is the core's; else it is still the caller's.
   lru_code ready(lru_pin pin, Node* node) noexcept {
     return lru_cache_ready(&cache_, pin, word_of(node));
+  }
+  // The same with a charge for the entry, strictly if the limit is.
+  lru_code ready_with(lru_pin pin, Node* node, std::uint64_t charge,
+                      Evicted<Node>* evicted) noexcept {
+    const lru_code code =
+        lru_cache_ready_with(&cache_, pin, word_of(node), charge, is_strict_, &chain_);
+    take_evicted(evicted);
+    return code;
   }
   lru_code fail(lru_pin pin) noexcept { return lru_cache_fail(&cache_, pin); }
   // The entry of a pin. All of it is 0 if it has no value.
@@ -370,6 +378,16 @@ class Core {
     take_evicted(evicted);
   }
   lru_code reserve(std::size_t entries) noexcept { return lru_cache_reserve(&cache_, entries); }
+  // Opens a cache with the same seed in place of this one, which has no entry: its tables take no
+  // memory then, and it has counted nothing. LRU_DONE; LRU_MEMORY: nothing has changed.
+  lru_code reopen(Seed seed) noexcept {
+    lru_cache fresh = {};
+    const lru_code code = lru_cache_new(Calls::kind, capacity(), seed.number, &fresh);
+    if (code != LRU_DONE) return code;
+    lru_cache_free(&cache_, &chain_);
+    cache_ = fresh;
+    return LRU_DONE;
+  }
   std::uint64_t total() const noexcept { return lru_cache_total(&cache_).value; }
   std::uint64_t pinned_charge() const noexcept { return lru_cache_pinned_charge(&cache_).value; }
   std::uint64_t capacity() const noexcept { return lru_cache_capacity(&cache_).value; }

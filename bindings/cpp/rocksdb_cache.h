@@ -19,7 +19,8 @@
 // if RocksDB's has one list for entries of all priorities (high_pri_pool_ratio and
 // low_pri_pool_ratio are 0) and charges no metadata (kDontChargeCacheMetadata). The differences:
 //
-//  - Priorities are accepted and not distinguished.
+//  - Priorities are accepted and not distinguished. docs/EMBEDDING.md has what a database misses
+//    without them; the cache of rocksdb_clock_cache.h misses less than RocksDB's own with them.
 //  - The memory of the cache itself is charged only with charges_metadata, and not by default.
 //  - A charge of 0 counts as 1, without charges_metadata. A database pins one such entry, for its
 //    statistics.
@@ -63,9 +64,15 @@
 // Each cache hashes keys with a random seed, so that nobody can choose keys whose hashes are equal.
 // If std::random_device has no random numbers, the process ends.
 //
-// Nothing here throws, except that GetPrintableOptions throws std::bad_alloc if there is no memory
-// for its result. The header compiles with -fno-exceptions. If RocksDB was built without run-time
-// type information, compile the file that includes this header with -fno-rtti.
+// In RocksDB 9.10, whose registry knows of caches, text can name a cache that was registered:
+//
+//   lru::RegisterRocksDBCache<lru::RocksDBBlockCache>();
+//   rocksdb::Cache::CreateFromString(config, "id=lru::RocksDBBlockCache://64M", &cache);
+//
+// Nothing here throws, except that GetPrintableOptions, RegisterRocksDBCache and what RocksDB then
+// calls to create a cache throw std::bad_alloc if there is no memory. The header compiles with
+// -fno-exceptions. If RocksDB was built without run-time type information, compile the file that
+// includes this header with -fno-rtti.
 #ifndef LRU_ROCKSDB_CACHE_H
 #define LRU_ROCKSDB_CACHE_H
 
@@ -81,6 +88,7 @@
 #include <string>
 #include <string_view>
 #include <type_traits>
+#include <unordered_map>
 
 #include "lru_block_cache.hpp"
 #include "lru_core.hpp"
@@ -92,6 +100,9 @@
 
 #if ROCKSDB_MAJOR == 9 && ROCKSDB_MINOR == 10
 #include "rocksdb/advanced_cache.h"
+#include "rocksdb/convenience.h"
+#include "rocksdb/utilities/object_registry.h"
+#include "rocksdb/utilities/options_type.h"
 #elif ROCKSDB_MAJOR != 7 || ROCKSDB_MINOR != 8
 #error "lru: rocksdb_cache.h is for RocksDB 7.8 and 9.10"
 #endif
@@ -257,9 +268,10 @@ class BasicRocksDBCache
   // These, and those of RocksDBInterface, are as rocksdb/cache.h or rocksdb/advanced_cache.h
   // describes them, with the differences above. Any thread may call them at any time.
 
-  const char* Name() const override {
+  static const char* ClassName() {
     return std::is_same_v<Key, Words> ? "lru::RocksDBBlockCache" : "lru::RocksDBCache";
   }
+  const char* Name() const override { return ClassName(); }
 
   bool Ref(Handle* handle) override {
     Entry* entry = EntryOf(handle);
@@ -655,6 +667,74 @@ inline std::shared_ptr<rocksdb::Cache> NewRocksDBBlockCache(
     const RocksDBCacheOptions& options) noexcept {
   return std::shared_ptr<rocksdb::Cache>(RocksDBBlockCache::New(options));
 }
+
+#if ROCKSDB_MAJOR != 7
+
+namespace detail {
+
+// Reads options from text: a capacity alone, or names and values.
+inline rocksdb::Status ReadOptions(const std::string& text, RocksDBCacheOptions* options) {
+  using rocksdb::OptionType;
+  struct Read {
+    std::size_t capacity = 0, shards = 0, typical_charge = 0;
+    bool strict_capacity_limit = false, charges_metadata = false;
+  } read;
+  const std::unordered_map<std::string, rocksdb::OptionTypeInfo> types = {
+      {"capacity", {offsetof(Read, capacity), OptionType::kSizeT}},
+      {"shards", {offsetof(Read, shards), OptionType::kSizeT}},
+      {"typical_charge", {offsetof(Read, typical_charge), OptionType::kSizeT}},
+      {"strict_capacity_limit", {offsetof(Read, strict_capacity_limit), OptionType::kBoolean}},
+      {"charges_metadata", {offsetof(Read, charges_metadata), OptionType::kBoolean}}};
+  const bool has_names = text.find('=') != std::string::npos;
+  const rocksdb::Status status = rocksdb::OptionTypeInfo::ParseType(
+      rocksdb::ConfigOptions(), has_names ? text : "capacity=" + text, types, &read);
+  options->capacity = read.capacity;
+  options->shards = read.shards;
+  options->typical_charge = read.typical_charge;
+  options->strict_capacity_limit = read.strict_capacity_limit;
+  options->charges_metadata = read.charges_metadata;
+  return status;
+}
+
+// What RocksDB calls to create a cache from the text that names it. Returns null and why if that
+// fails.
+template <class OneCache>
+rocksdb::Cache* CreateFromText(const std::string& text, std::unique_ptr<rocksdb::Cache>* cache,
+                               std::string* error) {
+  RocksDBCacheOptions options;
+  const rocksdb::Status status = ReadOptions(text.substr(text.find("://") + 3), &options);
+  if (status.ok()) {
+    cache->reset(OneCache::New(options));
+    if (*cache == nullptr) *error = "no memory for the cache";
+  } else {
+    *error = status.ToString();
+  }
+  return cache->get();
+}
+
+}  // namespace detail
+
+// From then on, Cache::CreateFromString creates a cache of this type, RocksDBBlockCache or
+// RocksDBCache, if its text has the name of the type followed by :// and the capacity, or by names
+// of RocksDBCacheOptions and their values, in braces:
+//
+//   id=lru::RocksDBBlockCache://64M
+//   id={lru::RocksDBBlockCache://capacity=64M;shards=16;strict_capacity_limit=true}
+//
+// So do options of a table as text, as in "block_cache={id=lru::RocksDBBlockCache://64M}". Any
+// thread may call this, and as often as it wants to.
+template <class OneCache>
+void RegisterRocksDBCache() {
+  using rocksdb::ObjectLibrary;
+  static const bool is_registered = [] {
+    const auto name = ObjectLibrary::PatternEntry(OneCache::ClassName(), false).AddSeparator("://");
+    ObjectLibrary::Default()->AddFactory<rocksdb::Cache>(name, detail::CreateFromText<OneCache>);
+    return true;
+  }();
+  static_cast<void>(is_registered);
+}
+
+#endif
 
 }  // namespace lru
 

@@ -7,7 +7,8 @@
 //   options.table_factory.reset(rocksdb::NewBlockBasedTableFactory(table));
 //
 // It is for RocksDB 7.8 and 9.10. Keys have 16 bytes, as those of RocksDB's block cache have; a
-// cache of rows needs lru::NewRocksDBCache of rocksdb_cache.h.
+// cache of rows needs lru::NewRocksDBCache of rocksdb_cache.h. In RocksDB 9.10, text can name it
+// after lru::RegisterRocksDBCache<lru::RocksDBClockCache>(), as rocksdb_cache.h says.
 //
 // Lookup, Ref and Release take no lock: each thread finds entries by readers of its own, one for
 // each shard. They are made by its first call on the shard, under the shard's mutex, and stay for a
@@ -43,11 +44,11 @@
 //
 // Of the clock less is proved than of the other caches: THE CLOCK in lru.h says what. This header
 // and those it includes add the mutexes, the readers of threads and the entries. They are ordinary
-// C++, tested beside RocksDB's own caches, with threads, with AddressSanitizer and UBSan, and with
-// requests for memory that are refused. Nothing here throws, except that GetPrintableOptions throws
-// std::bad_alloc if there is no memory for its result. The header compiles with -fno-exceptions. If
-// RocksDB was built without run-time type information, compile the file that includes this header
-// with -fno-rtti.
+// C++, tested beside RocksDB's own caches, with threads, with AddressSanitizer, UBSan and
+// ThreadSanitizer, and with requests for memory that are refused. Nothing here throws, except that
+// GetPrintableOptions throws std::bad_alloc if there is no memory for its result. The header
+// compiles with -fno-exceptions. If RocksDB was built without run-time type information, compile
+// the file that includes this header with -fno-rtti.
 #ifndef LRU_ROCKSDB_CLOCK_CACHE_H
 #define LRU_ROCKSDB_CLOCK_CACHE_H
 
@@ -83,7 +84,8 @@ class RocksDBClockCache
   // These, and those of RocksDBInterface, are as rocksdb/cache.h or rocksdb/advanced_cache.h
   // describes them, with the differences above. Any thread may call them at any time.
 
-  const char* Name() const override { return "lru::RocksDBClockCache"; }
+  static const char* ClassName() { return "lru::RocksDBClockCache"; }
+  const char* Name() const override { return ClassName(); }
 
   bool Ref(Handle* handle) override { return blocks_.Ref(EntryOf(handle)); }
 

@@ -9,7 +9,6 @@
 #include <cstddef>
 #include <cstdint>
 #include <cstdio>
-#include <fstream>
 #include <functional>
 #include <future>
 #include <memory>
@@ -20,6 +19,7 @@
 #include <string>
 #include <string_view>
 #include <thread>
+#include <tuple>
 #include <type_traits>
 #include <utility>
 #include <vector>
@@ -29,6 +29,7 @@
 #define LRU_H
 #define LRU_HPP
 #include "lru.hpp"
+#include "sleeps.hpp"
 
 namespace {
 
@@ -56,15 +57,20 @@ static_assert(std::is_base_of_v<std::overflow_error, lru::Overflow>);
 static_assert(std::is_base_of_v<std::invalid_argument, lru::ZeroCharge>);
 static_assert(std::is_base_of_v<std::runtime_error, lru::Full>);
 
-// Whether a call throws Full.
-template <class Call>
-bool is_full(Call call) {
+// Whether a call throws this.
+template <class Exception, class Call>
+bool throws(Call call) {
   try {
     call();
-  } catch (const lru::Full&) {
+  } catch (const Exception&) {
     return true;
   }
   return false;
+}
+
+template <class Call>
+bool is_full(Call call) {
+  return throws<lru::Full>(call);
 }
 
 void a_present_value_is_not_made_again() {
@@ -678,6 +684,158 @@ void a_maker_makes_its_value_in_place() {
   CHECK(begun.maker.ready(4)->number == 4 && evens.stats().removals == 0);
 }
 
+void a_maker_tells_a_charge() {
+  std::vector<int> deleted;
+  lru::Cache<Recorded, lru::Words> cache(10);
+  const auto make = [&](std::uint64_t n, std::uint64_t charge) {
+    cache.begin(key(n), charge).maker.ready(&deleted, static_cast<int>(n));
+  };
+  for (const std::uint64_t n : {1, 2, 3}) make(n, 3);
+  auto begun = cache.begin(key(4), 1);
+  CHECK(cache.total_charge() == 10 && deleted.empty());
+  {
+    // Those that were released longest ago leave.
+    const auto four = begun.maker.ready_with(5, &deleted, 4);
+    CHECK(four->number == 4 && !begun.maker && (deleted == std::vector<int>{1, 2}));
+    CHECK(cache.total_charge() == 8 && cache.pinned_charge() == 5);
+  }
+  // A smaller charge evicts nothing; one above the capacity leaves with its handle.
+  cache.begin(key(5), 2).maker.ready_with(1, &deleted, 5);
+  CHECK(deleted.size() == 2 && cache.total_charge() == 9 && cache.contains(key(3)));
+  cache.begin(key(6), 1).maker.ready_with(11, &deleted, 6);
+  CHECK((deleted == std::vector<int>{1, 2, 3, 4, 5, 6}) && cache.len() == 0);
+  const lru::Stats stats = cache.stats();
+  CHECK(stats.loads == 6 && stats.load_failures == 0 && stats.evictions == 6);
+
+  // Once its key was taken away, a value leaves with its handle.
+  auto taken = cache.begin(key(7), 1);
+  cache.invalidate(key(7));
+  {
+    const auto seven = taken.maker.ready_with(4, &deleted, 7);
+    CHECK(seven->number == 7 && !cache.contains(key(7)) && cache.pinned_charge() == 4);
+  }
+  CHECK(deleted.back() == 7 && cache.len() == 0);
+
+  bool is_refused = false;
+  try {
+    taken.maker.ready_with(1, &deleted, 8);
+  } catch (const std::logic_error& error) {
+    is_refused = std::string_view(error.what()) == "lru: ready_with is called on an empty maker";
+  }
+  CHECK(is_refused && deleted.back() == 7);
+
+  // The constructor throws: the maker can be asked again.
+  struct Even {
+    explicit Even(int n) : number(n) {
+      if (n % 2 != 0) throw std::runtime_error("odd");
+    }
+    int number;
+  };
+  lru::Cache<Even> evens(10);
+  auto again = evens.begin("n", 1);
+  CHECK(throws<std::runtime_error>([&] { again.maker.ready_with(4, 3); }));
+  CHECK(again.maker && evens.pinned_charge() == 1);
+  CHECK(again.maker.ready_with(4, 4)->number == 4 && evens.stats().load_failures == 0);
+  CHECK(evens.total_charge() == 4);
+}
+
+// The caches have a capacity of 10, and one shard.
+template <class Number, class Owner, class Text>
+void tells_charges(Number& cache, Owner& owners, Text& texts) {
+  const auto returns_with = [](int number, std::uint64_t charge) {
+    return [=](lru::Words) { return std::pair(number, charge); };
+  };
+  for (const std::uint64_t n : {1, 2, 3}) cache.get_or_init(key(n), 3, returns(1));
+  CHECK(*cache.get_or_init_with(key(4), returns_with(4, 5)) == 4);
+  CHECK(cache.total_charge() == 8 && !cache.contains(key(2)) && cache.contains(key(3)));
+  CHECK(*cache.get_or_init_with(key(4), returns_with(5, 6)) == 4 && cache.total_charge() == 8);
+  // While it is made, a value counts for 1.
+  cache.get_or_init_with(key(5), [&](const lru::Words& k) {
+    CHECK(k == key(5) && cache.pinned_charge() == 1 && !cache.get(k));
+    return std::pair(5, std::uint64_t{2});
+  });
+  CHECK(cache.total_charge() == 10);
+
+  // The value is moved from the pair, which may be another one.
+  const auto owner = owners.get_or_init_with("one", [](std::string_view) {
+    return std::tuple(std::make_unique<int>(1), std::uint64_t{4});
+  });
+  CHECK(**owner == 1 && owners.total_charge() == 4);
+  struct Charged {
+    const char* text;
+    unsigned charge;
+  };
+  CHECK(*texts.get_or_init_with("one", [](std::string_view) { return Charged{"a text", 6}; }) ==
+        "a text");
+  CHECK(texts.total_charge() == 6);
+
+  // An `init` that throws leaves nothing.
+  const auto unmade = [](lru::Words) -> std::pair<int, std::uint64_t> {
+    throw std::runtime_error("no value");
+  };
+  CHECK(throws<std::runtime_error>([&] { cache.get_or_init_with(key(6), unmade); }));
+  CHECK(cache.pinned_charge() == 0 && cache.stats().load_failures == 1);
+  CHECK(*cache.get_or_init_with(key(6), returns_with(6, 1)) == 6);
+
+  // It is refused before `init` runs, or afterwards.
+  cache.set_strict_limit(true);
+  auto all = cache.insert(key(7), 10, 7);
+  CHECK(is_full([&] { cache.get_or_init_with(key(8), unmade); }));
+  CHECK(*cache.get_or_init_with(key(7), unmade) == 7);
+  all.reset();
+  CHECK(is_full([&] { cache.get_or_init_with(key(8), returns_with(8, 11)); }));
+  CHECK(throws<lru::ZeroCharge>([&] { cache.get_or_init_with(key(8), returns_with(8, 0)); }));
+  CHECK(cache.len() == 0 && cache.stats().load_failures == 3);
+}
+
+void an_init_tells_a_charge() {
+  Numbers numbers(10);
+  lru::Cache<std::unique_ptr<int>> owners(10);
+  lru::Cache<const std::string> texts(10);
+  tells_charges(numbers, owners, texts);
+  lru::ShardedCache<const int, lru::Words> sharded(10, 1);
+  lru::ShardedCache<std::unique_ptr<int>> sharded_owners(10, 1);
+  lru::ShardedCache<const std::string> sharded_texts(10, 1);
+  tells_charges(sharded, sharded_owners, sharded_texts);
+}
+
+// Those that wait get the value; if the cache refuses it, one of them makes another.
+void those_that_wait_hear_of_a_charge() {
+  for (const std::uint64_t charge : {std::uint64_t{4}, std::uint64_t{0}, std::uint64_t{9},
+                                     std::uint64_t{UINT64_MAX}}) {
+    std::vector<int> deleted;
+    Calling::Cache cache(10, charge == 9 ? lru::Limit::kStrict : lru::Limit::kNotStrict);
+    const auto ask = [&](int n) {
+      return [&cache, &deleted, n](lru::Words) { return Calling(&cache, &deleted, n); };
+    };
+    const auto held = cache.get_or_init(key(2), 2, ask(2));
+    cache.get_or_init(key(3), 6, ask(3));
+    auto first = cache.begin(key(1), 1);
+    std::thread waiting([&] {
+      const auto handle = cache.get_or_init(key(1), 1, ask(8));
+      CHECK(handle->number == (charge == 4 ? 7 : 8));
+    });
+    wait_for_waits(cache, 1);
+    const auto give = [&] { first.maker.ready_with(charge, &cache, &deleted, 7); };
+    if (charge == 4) {
+      give();
+      // What it evicts is deleted without the lock.
+      CHECK(!deleted.empty() && deleted[0] == 3);
+    } else {
+      // So is a value that is refused, and nothing is evicted for it.
+      CHECK(charge == 0   ? throws<lru::ZeroCharge>(give)
+            : charge == 9 ? throws<lru::Full>(give)
+                          : throws<lru::Overflow>(give));
+      CHECK(!deleted.empty() && deleted[0] == 7);
+    }
+    CHECK(!first.maker);
+    waiting.join();
+    const lru::Stats stats = cache.stats();
+    CHECK(stats.loads == 3 && stats.load_failures == (charge == 4 ? 0 : 1));
+    CHECK(stats.pinned_charge == 2 && held->number == 2);
+  }
+}
+
 void makers_move() {
   Numbers cache(10);
   Numbers::Maker one = cache.begin(key(1), 1).maker;
@@ -862,10 +1020,21 @@ void loads_are_counted() {
   waiting.join();
   CHECK(cache.stats().loads == 3);
 
+  // A charge that is told with the value may be refused.
+  for (const std::uint64_t charge : {1, 0}) {
+    const auto told = took([&] {
+      const auto init = [&](lru::Words) { return wait(), std::pair(1, charge); };
+      CHECK(throws<lru::ZeroCharge>([&] { cache.get_or_init_with(key(8 + charge), init); }) ==
+            (charge == 0));
+    });
+    CHECK(told.first >= milliseconds(20));
+  }
+  CHECK(cache.stats().loads == 4 && cache.stats().load_failures == 3);
+
   // Times are measured only while that is asked for.
   cache.set_load_times(false);
   CHECK(took([&] { cache.get_or_init(key(7), 1, slowly); }).first == milliseconds(0));
-  CHECK(cache.stats().loads == 4);
+  CHECK(cache.stats().loads == 5);
 
   lru::ShardedCache<const int, lru::Words> sharded(100, 4);
   sharded.set_load_times(true);
@@ -877,34 +1046,11 @@ void loads_are_counted() {
   CHECK(sum.loads == 6 && sum.load_failures == 2 && sum.load_nanoseconds > 0);
 }
 
-// The folder in which Linux tells about the calling thread.
-std::string folder_of_this_thread() {
-  char path[64];
-  const ssize_t length = readlink("/proc/thread-self", path, sizeof path);
-  CHECK(length > 0);
-  return "/proc/" + std::string(path, static_cast<std::size_t>(length > 0 ? length : 0));
-}
-
-// How often a thread has gone to sleep, once it sleeps.
-long sleeps_of(const std::string& folder) {
-  while (true) {
-    std::ifstream status(folder + "/status");
-    bool is_asleep = false;
-    for (std::string line; std::getline(status, line);) {
-      if (line.rfind("State:", 0) == 0) is_asleep = line.find('S', 6) != std::string::npos;
-      const std::string_view count = "voluntary_ctxt_switches:";
-      if (is_asleep && line.rfind(count, 0) == 0) return std::stol(line.substr(count.size()));
-    }
-    std::this_thread::sleep_for(std::chrono::milliseconds(1));
-  }
-}
-
 void a_making_wakes_only_those_that_wait_for_it() {
   constexpr std::size_t kWaiting = 20;
   Numbers cache(10);
   Meeting meeting;
-  std::mutex lock;
-  std::vector<std::string> folders;
+  Sleepers sleepers;
   std::vector<std::thread> threads;
   threads.emplace_back([&] {
     cache.get_or_init(key(0), 1, [&](lru::Words) {
@@ -917,20 +1063,12 @@ void a_making_wakes_only_those_that_wait_for_it() {
   std::atomic<std::size_t> right{0};
   for (std::size_t t = 0; t < kWaiting; t++) {
     threads.emplace_back([&] {
-      {
-        const std::lock_guard<std::mutex> guard(lock);
-        folders.push_back(folder_of_this_thread());
-      }
+      sleepers.add_this_thread();
       if (*cache.get_or_init(key(0), 1, returns(8)) == 7) right++;
     });
   }
   wait_for_waits(cache, kWaiting);
-  const auto sleeps = [&] {
-    long sum = 0;
-    for (const std::string& folder : folders) sum += sleeps_of(folder);
-    return sum;
-  };
-  const long before = sleeps();
+  const long before = sleepers.sleeps();
   for (std::uint64_t n = 1; n <= 200; n++) {
     cache.get_or_init(key(n), 1, returns(1));
     try {
@@ -941,7 +1079,7 @@ void a_making_wakes_only_those_that_wait_for_it() {
     }
   }
   // Nobody has woken: who wakes goes to sleep once more.
-  CHECK(sleeps() == before);
+  CHECK(sleepers.sleeps() == before);
   meeting.meet();
   for (std::thread& thread : threads) thread.join();
   CHECK(right == kWaiting);
@@ -1410,9 +1548,26 @@ void tells(Make make) {
     cache.clear();
     CHECK(told.take() == "a=2 cleared");
 
+    // For a charge that is told with a value, and once its key was taken away.
+    init("a", 1);
+    init("b", 2);
+    cache.begin("c", 1).maker.ready_with(3, 3);
+    CHECK(told.take() == "a=1 evicted, b=2 evicted");
+    cache.prune();
+    {
+      auto begun = cache.begin("a", 1);
+      cache.invalidate("a");
+      begun.maker.ready_with(2, 4);
+    }
+    CHECK(told.take() == "c=3 evicted, a=4 invalidated");
+
     // What the cache did not keep is not told.
     try {
       cache.insert("a", 0, 1);
+    } catch (const lru::ZeroCharge&) {
+    }
+    try {
+      cache.begin("a", 1).maker.ready_with(0, 1);
     } catch (const lru::ZeroCharge&) {
     }
     { auto begun = cache.begin("a", 1); }
@@ -1549,6 +1704,42 @@ void room_is_made_or_refused() {
   cache.reserve(1000);
   sharded.reserve(1000);
   CHECK(*cache.get(key(1)) == 1 && *sharded.get(key(1)) == 1 && cache.capacity() == 10);
+}
+
+// What calls have counted.
+auto counts_of(const lru::Stats& stats) {
+  return std::tuple(stats.hits, stats.misses, stats.waits, stats.insertions, stats.evictions,
+                    stats.removals, stats.loads, stats.load_failures);
+}
+
+// That the memory is given back is tested by no_memory_cpp.cc.
+void tables_shrink_if_they_are_empty() {
+  Numbers cache(10, [](lru::Words, const int&, lru::Reason) {}, lru::Limit::kStrict);
+  for (std::uint64_t round = 1; round <= 2; round++) {
+    {
+      const auto held = cache.get_or_init(key(1), 1, returns(1));
+      cache.get(key(1));
+      cache.insert(key(2), 1, 2);
+      CHECK(throws<int>([&] {
+        cache.get_or_init(key(3), 1, [](lru::Words) -> int { throw 3; });
+      }));
+      cache.invalidate(key(2));  // which the listener makes look for the value
+      cache.prune();
+      CHECK(!cache.shrink_to_fit() && *held == 1);
+    }
+    CHECK(!cache.shrink_to_fit());
+    cache.prune();
+    const auto counts = counts_of(cache.stats());
+    CHECK(counts == std::tuple(round, 2 * round, 0u, 3 * round, 2 * round, round, round, round));
+    CHECK(cache.shrink_to_fit() && cache.shrink_to_fit());
+    CHECK(counts_of(cache.stats()) == counts && cache.len() == 0);
+    CHECK(cache.capacity() == 10 && cache.is_limit_strict() && !cache.contains(key(1)));
+  }
+  lru::ShardedCache<const int, lru::Words, BySecond> sharded(10, 2);
+  sharded.insert(key(1), 1, 1);
+  CHECK(!sharded.shrink_to_fit() && *sharded.get(key(1)) == 1);
+  sharded.prune();
+  CHECK(sharded.shrink_to_fit() && sharded.stats().hits == 1);
 }
 
 void shards_have_equal_shares() {
@@ -1766,6 +1957,9 @@ int main() {
   all_that_wait_are_woken_however_the_making_ends();
   a_beginning_tells_a_handle_or_a_maker();
   a_maker_makes_its_value_in_place();
+  a_maker_tells_a_charge();
+  an_init_tells_a_charge();
+  those_that_wait_hear_of_a_charge();
   makers_move();
   a_try_never_waits();
   a_try_leaves_those_that_wait_alone();
@@ -1790,6 +1984,7 @@ int main() {
   a_listener_runs_without_the_lock();
   a_cache_goes_on_if_its_listener_throws();
   room_is_made_or_refused();
+  tables_shrink_if_they_are_empty();
   shards_have_equal_shares();
   a_small_cache_has_few_shards();
   a_seed_changes_no_answer();
@@ -1797,6 +1992,6 @@ int main() {
   a_handle_that_outlives_its_cache_is_asserted_against();
   a_destructor_that_calls_a_cache_that_is_destroyed_is_told_the_rule();
   values_may_be_move_only_or_neither();
-  std::printf("lru.hpp: 53 tests, %d checks failed\n", failed_checks);
+  std::printf("lru.hpp: 57 tests, %d checks failed\n", failed_checks);
   return failed_checks == 0 ? 0 : 1;
 }

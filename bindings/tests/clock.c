@@ -555,6 +555,70 @@ static void test_makings(void) {
     CHECK(lru_reader_free(&reader), LRU_DONE);
 }
 
+/* A call with a hash that is not that of the key, or with a place that is none, changes nothing
+ * that is there, and each value is told once. */
+static void test_wrong_hashes_and_places(void) {
+    const uint32_t places[] = {1000, UINT32_MAX};
+    const uint64_t other_hash = hash_of(99);
+    lru_clock clock = {0};
+    lru_reader reader = {0};
+    lru_left left = {1, 2, 3};
+    lru_found found, other;
+    uint32_t next = UINT32_MAX;
+    unsigned n, gone = 0;
+    CHECK(lru_clock_new(10, &clock), LRU_DONE);
+    CHECK(lru_reader_new(&clock, &reader), LRU_DONE);
+    adds(&clock, &reader, 1, 2);
+
+    /* by another hash the key has no entry */
+    CHECK(lru_reader_pin(&reader, other_hash, 1, ~1ul).code, LRU_MISSED);
+    CHECK(lru_clock_find(&clock, other_hash, 1, ~1ul).code, LRU_MISSED);
+    CHECK(lru_clock_erase(&clock, other_hash, 1, ~1ul, &left), LRU_DONE);
+    CHECK(lru_clock_prune(&clock, &next, &left), LRU_DONE);
+    CHECK(next, UINT32_MAX);
+    CHECK(lru_clock_len(&clock).value, 1);
+
+    /* or one of its own, beside the first one */
+    other = lru_clock_add(&clock, other_hash, 1, ~1ul, 3, 99, true);
+    CHECK(other.code, LRU_DONE);
+    CHECK(lru_clock_total(&clock).value, 5);
+    found = lru_reader_pin(&reader, hash_of(1), 1, ~1ul);
+    CHECK(found.code, LRU_HIT);
+    CHECK(found.value, 10);
+    CHECK(found.place == other.place, false);
+    CHECK(lru_reader_unpin(&reader, found.place), LRU_DONE);
+    CHECK(lru_reader_unpin(&reader, other.place), LRU_DONE);
+
+    /* a value that was made is found by the hash of ready */
+    found = begins(&clock, 2, 1);
+    CHECK(found.code, LRU_MAKE);
+    found = lru_clock_ready(&clock, found.value, other_hash, 1, 20, true);
+    CHECK(found.code, LRU_DONE);
+    CHECK(lru_reader_pin(&reader, hash_of(2), 2, ~2ul).code, LRU_MISSED);
+    CHECK(lru_reader_pin(&reader, other_hash, 2, ~2ul).value, 20);
+    CHECK(lru_reader_unpin(&reader, found.place), LRU_DONE);
+    CHECK(lru_reader_unpin(&reader, found.place), LRU_DONE);
+
+    /* an entry without a pin, and places without an entry */
+    CHECK(lru_reader_unpin(&reader, found.place), LRU_STALE);
+    CHECK(lru_clock_release_and_evict(&clock, found.place, &left), LRU_STALE);
+    CHECK(lru_clock_collect(&clock, found.place, &left), LRU_DONE);
+    for (n = 0; n < 2; n++) {
+        CHECK(lru_reader_pin_at(&reader, places[n]).code, LRU_MISSED);
+        CHECK(lru_reader_unpin(&reader, places[n]), LRU_STALE);
+        CHECK(lru_clock_release_and_evict(&clock, places[n], &left), LRU_STALE);
+        CHECK(lru_clock_collect(&clock, places[n], &left), LRU_DONE);
+    }
+    CHECK(left.first == 1 && left.second == 2 && left.value == 3, true);
+
+    next = 0;
+    for (; lru_clock_prune(&clock, &next, &left) == LRU_GONE; gone++)
+        CHECK(is_entry(&left, 1, 10) || is_entry(&left, 1, 99) || is_entry(&left, 2, 20), true);
+    CHECK(gone, 3);
+    CHECK(lru_clock_free(&clock), LRU_DONE);
+    CHECK(lru_reader_free(&reader), LRU_DONE);
+}
+
 /* ------------------------------------------------------------------------------ refused memory */
 
 /* Stores an entry as its maker, where one request for memory is refused: a begin that is refused
@@ -926,6 +990,7 @@ int main(void) {
     test_above();
     test_inserts();
     test_makings();
+    test_wrong_hashes_and_places();
     refusals = refusals_of(test_refusal) + refusals_of(test_refused_reserve);
     refusals += refusals_of(test_refused_inserts);
     test_threads(KEYS / 2, run);

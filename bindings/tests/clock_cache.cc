@@ -33,6 +33,7 @@
 #include "clock_threads.hpp"
 #include "deleted_once.hpp"
 #include "lru_clock.hpp"
+#include "sleeps.hpp"
 
 // Which request for memory is refused, counted down, and whether all are that come later too. Only
 // one thread asks for memory while this is above 0.
@@ -62,6 +63,19 @@ lru_found __wrap_lru_clock_insert(lru_clock* clock, std::uint64_t hash, std::uin
                                   bool strict, lru_left* left) {
   if (before_insert) before_insert(*left);
   return __real_lru_clock_insert(clock, hash, first, second, charge, value, strict, left);
+}
+}
+
+// Is called before each lru_clock_ready, if it is not empty.
+static std::function<void()> before_ready;
+
+extern "C" {
+lru_found __real_lru_clock_ready(lru_clock* clock, std::uint64_t ticket, std::uint64_t hash,
+                                 std::uint64_t charge, std::uint64_t value, bool strict);
+lru_found __wrap_lru_clock_ready(lru_clock* clock, std::uint64_t ticket, std::uint64_t hash,
+                                 std::uint64_t charge, std::uint64_t value, bool strict) {
+  if (before_ready) before_ready();
+  return __real_lru_clock_ready(clock, ticket, hash, charge, value, strict);
 }
 }
 
@@ -140,11 +154,55 @@ void a_handle_pins_its_value() {
   CHECK(cache.pinned_charge() == 4 && cache.total_charge() == 4 && cache.capacity() == 2);
   cache.prune();
   CHECK(*one == 1 && *two == 2 && *cache.get(1) == 1 && cache.len() == 2);
-  // The end of a handle evicts nothing, but the next call that adds a value does.
+  // While the total is above the capacity, what loses its last handle is evicted.
+  auto clone = one.clone();
   one.reset();
-  CHECK(!one && one.get() == nullptr && cache.len() == 2 && cache.pinned_charge() == 2);
+  CHECK(!one && one.get() == nullptr && cache.len() == 2 && cache.pinned_charge() == 4);
+  clone.reset();
+  CHECK(!cache.get(1) && cache.len() == 1 && cache.total_charge() == 2);
   cache.insert(3, 1, 3);
-  CHECK(!cache.get(1) && *cache.get(2) == 2 && *cache.get(3) == 3 && cache.total_charge() == 3);
+  CHECK(!cache.get(3) && *cache.get(2) == 2 && *two == 2 && cache.total_charge() == 2);
+}
+
+void what_is_released_before_a_value_is_stored_leaves() {
+  Numbers cache(2, kOne);
+  auto one = cache.insert(1, 2, 1);
+  auto maker = cache.begin(2, 2).maker;
+  // No room was made for the new value, as this one had a handle then.
+  before_ready = [&] { one.reset(); };
+  const auto two = maker.ready(2);
+  before_ready = nullptr;
+  CHECK(!cache.get(1) && *two == 2 && cache.total_charge() == 2);
+}
+
+void a_release_and_an_advice_evict() {
+  {
+    Objects cache(10, kOne);
+    auto one = cache.insert(1, 1, std::uint64_t{1});
+    auto clone = one.clone();
+    cache.advice_evict(1);
+    clone.release_and_evict();
+    CHECK(!clone && alive == 1 && cache.get(1).get() == one.get());
+    static_assert(noexcept(one.release_and_evict()));
+    one.release_and_evict();
+    CHECK(!one && alive == 0 && !cache.get(1) && cache.len() == 0);
+    one.release_and_evict();
+    cache.insert(1, 1, std::uint64_t{1});
+    cache.advice_evict(2);
+    CHECK(alive == 1 && cache.get(1)->key == 1);
+    cache.advice_evict(1);
+    CHECK(alive == 0 && !cache.get(1) && cache.total_charge() == 0);
+
+    // A value that its key does not find, and one that is being made.
+    one = cache.insert(1, 1, std::uint64_t{1});
+    const auto two = cache.insert(1, 1, std::uint64_t{1});
+    one.release_and_evict();
+    CHECK(alive == 1 && cache.get(1).get() == two.get());
+    auto maker = cache.begin(2, 1).maker;
+    cache.advice_evict(2);
+    CHECK(maker.ready(std::uint64_t{2}) && cache.get(2)->key == 2);
+  }
+  CHECK(alive == 0 && wrong == 0);
 }
 
 void a_value_that_was_made_evicts() {
@@ -334,8 +392,11 @@ void an_insert_replaces() {
     // What has no room beside what is pinned is inserted all the same.
     const auto large = cache.insert(5, 9, std::uint64_t{5});
     CHECK(cache.len() == 1 && cache.total_charge() == 9);
-    cache.insert(6, 1, std::uint64_t{6});
-    CHECK(cache.total_charge() == 10 && cache.get(5).get() == large.get());
+    {
+      const auto six = cache.insert(6, 1, std::uint64_t{6});
+      CHECK(cache.total_charge() == 10 && cache.get(5).get() == large.get());
+    }
+    CHECK(cache.total_charge() == 9 && !cache.get(6));
   }
   CHECK(alive == 0);
 }
@@ -424,6 +485,45 @@ struct Told {
 template <class Call>
 bool is_full(Call call) {
   return throws<lru::Full>(call);
+}
+
+void a_charge_is_told_with_the_value() {
+  Numbers cache(10, kOne);
+  for (const int n : {1, 2, 3, 4}) cache.insert(static_cast<std::uint64_t>(n), 2, n);
+  auto maker = cache.begin(5, 1).maker;
+  auto moved = std::move(maker);
+  CHECK(cache.total_charge() == 8);
+  {
+    const auto made = moved.ready_with(6, 5);
+    CHECK(*made == 5 && !moved && cache.total_charge() == 10 && cache.pinned_charge() == 6);
+  }
+  CHECK(throws<std::logic_error>([&] { moved.ready_with(1, 1); }));
+  const auto with = [](int number, std::uint64_t charge) {
+    return [=](const std::uint64_t&) { return std::pair(number, charge); };
+  };
+  CHECK(*cache.get_or_init_with(6, with(60, 3)) == 60);
+  CHECK(*cache.get_or_init_with(6, with(61, 4)) == 60 && cache.total_charge() <= 10);
+  cache.prune();
+  const auto six = cache.get_or_init_with(6, with(62, 4));
+  CHECK(shown(cache) == "6=62*4 ");
+
+  // A charge that is refused, or an `init` that throws, ends the making.
+  CHECK(throws<lru::ZeroCharge>([&] { cache.get_or_init_with(7, with(7, 0)); }));
+  CHECK(throws<lru::Overflow>([&] { cache.get_or_init_with(7, with(7, UINT64_MAX - 3)); }));
+  cache.set_strict_limit(true);
+  CHECK(is_full([&] { cache.get_or_init_with(7, with(7, 7)); }));
+  const auto fails = [](std::uint64_t) -> std::pair<int, std::uint64_t> { throw Failed(); };
+  CHECK(throws<Failed>([&] { cache.get_or_init_with(7, fails); }));
+  CHECK(cache.stats().load_failures == 4 && shown(cache) == "6=62*4 ");
+  CHECK(*cache.get_or_init_with(7, with(7, 6)) == 7 && cache.total_charge() == 10);
+  const auto seven = cache.get(7);
+  CHECK(is_full([&] { cache.get_or_init_with(8, fails); }));
+
+  lru::ClockCache<std::unique_ptr<int>, int> owners(10);
+  const auto owner = owners.get_or_init_with(1, [](int n) {
+    return std::pair(std::make_unique<int>(n), std::uint64_t{3});
+  });
+  CHECK(**owner == 1 && owners.total_charge() == 3);
 }
 
 void a_strict_limit_has_no_room_beside_pinned_values() {
@@ -540,7 +640,7 @@ void an_insert_has_the_room_of_the_old_value() {
   CHECK(cache.pinned_charge() == 6);
   held.reset();
 
-  // The old value is room also if the total is above the capacity.
+  // If the total is above the capacity, the old value leaves with its handle.
   cache.clear();
   cache.set_strict_limit(false);
   held = cache.insert(1, 6, 1);
@@ -548,6 +648,7 @@ void an_insert_has_the_room_of_the_old_value() {
   cache.set_strict_limit(true);
   CHECK(is_full([&] { cache.insert(2, 1, 3); }) && cache.get(2).get() == other.get());
   other.reset();
+  CHECK(shown(cache) == "1=1*6 ");
   CHECK(*cache.insert(2, 1, 3) == 3 && shown(cache) == "1=1*6 2=3*1 ");
 }
 
@@ -849,10 +950,18 @@ void a_listener_is_told_what_leaves() {
     // The old value is replaced too if it is the one that is evicted for the new one.
     held = cache.insert(1, 2, 1);
     cache.insert(2, 1, 2);
-    cache.insert(2, 2, 3);
+    auto last = cache.insert(2, 2, 3);
     CHECK(told.take() == "2=2 replaced" && cache.total_charge() == 4);
+    last.reset();
+    CHECK(told.take() == "2=3 evicted");
+    cache.insert(2, 1, 4);
+    cache.advice_evict(2);
+    CHECK(told.take() == "2=4 evicted");
+    cache.insert(2, 1, 5).release_and_evict();
+    CHECK(told.take() == "2=5 evicted");
+    cache.insert(2, 1, 6);
   }
-  CHECK(told.take() == "1=1 cleared, 2=3 cleared");
+  CHECK(told.take() == "1=1 cleared, 2=6 cleared");
 
   // With a strict limit: the old value is replaced if it leaves for the new one, and not if that is
   // refused.
@@ -954,6 +1063,28 @@ void others_wait_for_one_making() {
   CHECK(shown(cache) == "1=1*1 ");
 }
 
+void a_making_wakes_only_those_that_wait_for_it() {
+  Numbers cache(10, kOne);
+  auto maker = cache.begin(1, 1).maker;
+  Sleepers sleepers;
+  std::vector<std::future<int>> waiting;
+  for (int n = 0; n < 10; n++) {
+    waiting.push_back(asks([&] {
+      sleepers.add_this_thread();
+      return static_cast<int>(*cache.get_or_init(1, 1, returns(2)));
+    }));
+  }
+  const long before = sleepers.sleeps();
+  for (int n = 0; n < 200; n++) {
+    cache.get_or_init(100 + n, 1, returns(3));
+    cache.begin(2, 1);  // a maker that is destroyed
+  }
+  // Nobody has woken: who wakes goes to sleep once more.
+  CHECK(sleepers.sleeps() == before);
+  maker.ready(1);
+  for (auto& value : waiting) CHECK(in_time(std::move(value)) == 1);
+}
+
 void one_that_waits_makes_what_another_failed_to() {
   Numbers cache(10, kOne);
   auto maker = cache.begin(1, 1).maker;
@@ -997,6 +1128,17 @@ void who_waits_for_a_value_that_is_refused_goes_on() {
   auto is_too_large = asks([&] { return is_full([&] { cache.get_or_init(3, 9, returns(3)); }); });
   maker.fail();
   CHECK(in_time(std::move(is_too_large)) && shown(cache) == "2=2*5 ");
+}
+
+void who_waits_for_a_charge_hears_of_it() {
+  for (const std::uint64_t charge : {std::uint64_t{3}, std::uint64_t{0}}) {
+    Numbers cache(10, kOne);
+    auto maker = cache.begin(1, 1).maker;
+    auto waits = asks([&] { return *cache.get_or_init(1, 2, returns(2)); });
+    CHECK(throws<lru::ZeroCharge>([&] { maker.ready_with(charge, 1); }) == (charge == 0));
+    CHECK(in_time(std::move(waits)) == (charge == 0 ? 2 : 1));
+    CHECK(shown(cache) == (charge == 0 ? "1=2*2 " : "1=1*3 "));
+  }
 }
 
 // --------------------------------------------------------------------------------------- threads
@@ -1344,6 +1486,8 @@ void a_destructor_that_calls_a_cache_that_is_destroyed_is_told_the_rule() {
 int main() {
   a_present_value_is_not_made_again();
   a_handle_pins_its_value();
+  what_is_released_before_a_value_is_stored_leaves();
+  a_release_and_an_advice_evict();
   a_value_that_was_made_evicts();
   handles_are_moved_and_cloned();
   a_handle_outlives_what_its_key_finds();
@@ -1357,6 +1501,7 @@ int main() {
   values_leave_by_prune_clear_and_erase_if();
   a_predicate_that_throws_erases_nothing_of_its_shard();
   the_capacity_is_shared_and_set();
+  a_charge_is_told_with_the_value();
   a_strict_limit_has_no_room_beside_pinned_values();
   the_room_for_a_value_may_be_taken_while_it_is_made();
   an_insert_has_the_room_of_the_old_value();
@@ -1372,9 +1517,11 @@ int main() {
   a_listener_is_told_what_leaves();
   a_listener_runs_without_the_lock();
   others_wait_for_one_making();
+  a_making_wakes_only_those_that_wait_for_it();
   one_that_waits_makes_what_another_failed_to();
   who_waits_for_a_key_that_is_taken_away_goes_on();
   who_waits_for_a_value_that_is_refused_goes_on();
+  who_waits_for_a_charge_hears_of_it();
   a_new_thread_finds_and_releases();
   a_key_that_is_replaced_always_has_a_value();
   the_total_stays_within_a_strict_limit();
@@ -1388,6 +1535,6 @@ int main() {
   a_handle_that_outlives_its_cache_is_asserted_against();
   a_destructor_that_calls_a_cache_that_is_destroyed_is_told_the_rule();
   CHECK(requests > 100);
-  std::printf("lru_clock.hpp: 45 tests, %d checks failed\n", failed_checks);
+  std::printf("lru_clock.hpp: 50 tests, %d checks failed\n", failed_checks);
   return failed_checks == 0 ? 0 : 1;
 }

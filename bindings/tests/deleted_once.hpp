@@ -7,16 +7,6 @@
 #include <cstdint>
 #include <cstring>
 
-// Whether this is for ThreadSanitizer. It does not see the atomics of the library, which order what
-// threads do with a clock, and would report races in right programs.
-#if defined(__SANITIZE_THREAD__)
-constexpr bool kHasThreadSanitizer = true;
-#elif defined(__has_feature)
-constexpr bool kHasThreadSanitizer = __has_feature(thread_sanitizer);
-#else
-constexpr bool kHasThreadSanitizer = false;
-#endif
-
 inline std::atomic<std::int64_t> alive{0};
 inline std::atomic<std::int64_t> wrong{0};
 

@@ -2,13 +2,17 @@
 // capacities, and one of 200,000 keys with that of the clock and with LevelDB's own. All answers
 // must be equal, and the numbers of hits and insertions and the total charge at the end. With the
 // clock, which evicts other blocks, only the answers must be, and there must be at least half as
-// many hits. Prints these numbers, and exits with 1 if something differs.
+// many hits. Four threads read, write, delete, iterate and compact the second one, each its own
+// keys, and then all answers must be right and equal too. Prints these numbers, and exits with 1 if
+// something differs.
 #include <cstdint>
 #include <cstdio>
 #include <cstdlib>
 #include <cstring>
 #include <memory>
 #include <string>
+#include <thread>
+#include <utility>
 #include <vector>
 
 #include "leveldb/cache.h"
@@ -151,6 +155,108 @@ Outcome Read(const std::string& path, leveldb::Cache* cache, std::uint64_t keys 
   return outcome;
 }
 
+// The calls of one thread on its own keys, from `first` on, each of which has the version 0 at the
+// beginning. A key that was deleted has none.
+class Worker {
+ public:
+  Worker(leveldb::DB* db, std::uint64_t first, std::uint64_t count)
+      : db_(db), first_(first), versions_(count, 0) {}
+
+  void Run() {
+    constexpr std::uint64_t kCalls = 20000;
+    for (std::uint64_t call = 0; call < kCalls; call++) {
+      const std::uint64_t x = Mix(first_ + call), kind = x % 1000;
+      const std::uint64_t n = (x >> 16) % versions_.size();
+      if (kind < 500) {
+        Get(n);
+      } else if (kind < 750) {
+        versions_[n] = call + 1;
+        Check(db_->Put(leveldb::WriteOptions(), Key(n), ValueOf(Named(n))));
+      } else if (kind < 850) {
+        versions_[n] = kNone;
+        Check(db_->Delete(leveldb::WriteOptions(), Key(n)));
+      } else if (kind < 999) {
+        Iterate(n, x % 2 == 0);
+      } else {
+        const std::string begin = Key(n), end = Key(n + versions_.size() / 10);
+        const leveldb::Slice from = begin, to = end;
+        db_->CompactRange(&from, &to);
+      }
+    }
+  }
+
+  std::vector<std::string> answers;
+  std::uint64_t wrong = 0;
+
+ private:
+  static constexpr std::uint64_t kNone = UINT64_MAX;
+
+  std::string Key(std::uint64_t n) const { return KeyOf(first_ + n); }
+  // What names the value that a key has.
+  std::uint64_t Named(std::uint64_t n) const { return first_ + n + versions_[n] * kManyKeys; }
+  std::string Right(std::uint64_t n) const {
+    return versions_[n] == kNone ? "none" : ValueOf(Named(n));
+  }
+
+  void Add(std::string answer, const std::string& right) {
+    if (answer != right) wrong++;
+    answers.push_back(std::move(answer));
+  }
+
+  void Get(std::uint64_t n) {
+    std::string value;
+    const leveldb::Status status = db_->Get(leveldb::ReadOptions(), Key(n), &value);
+    if (!status.IsNotFound()) Check(status);
+    Add(status.IsNotFound() ? "none" : value, Right(n));
+  }
+
+  // The next 20 keys that have values, or those before, unless an end of the thread's keys is near.
+  void Iterate(std::uint64_t n, bool is_forward) {
+    const std::unique_ptr<leveldb::Iterator> it(db_->NewIterator(leveldb::ReadOptions()));
+    while (n < versions_.size() && versions_[n] == kNone) n++;
+    if (n == versions_.size()) return;
+    it->Seek(Key(n));
+    for (int step = 0; step < 20; step++) {
+      // Below 0 it is above all.
+      while (n < versions_.size() && versions_[n] == kNone) n = is_forward ? n + 1 : n - 1;
+      if (n >= versions_.size()) break;
+      Add(it->Valid() ? it->key().ToString() + it->value().ToString() : "none",
+          Key(n) + Right(n));
+      if (!it->Valid()) break;
+      if (is_forward) {
+        it->Next();
+        n++;
+      } else {
+        it->Prev();
+        n--;
+      }
+    }
+    Check(it->status());
+  }
+
+  leveldb::DB* db_;
+  std::uint64_t first_;
+  std::vector<std::uint64_t> versions_;
+};
+
+// What four threads find in a database that was just filled, one thread after the other.
+Outcome Work(const std::string& path, leveldb::Cache* its_own) {
+  constexpr std::uint64_t kThreads = 4, kEach = kManyKeys / kThreads;
+  const std::unique_ptr<leveldb::Cache> cache(its_own);
+  Outcome outcome = {};
+  const std::unique_ptr<leveldb::DB> db = Open(path, cache.get(), false);
+  std::vector<Worker> workers;
+  for (std::uint64_t t = 0; t < kThreads; t++) workers.emplace_back(db.get(), t * kEach, kEach);
+  std::vector<std::thread> threads;
+  for (Worker& worker : workers) threads.emplace_back(&Worker::Run, &worker);
+  for (std::thread& thread : threads) thread.join();
+  for (const Worker& worker : workers) {
+    outcome.wrong += worker.wrong;
+    outcome.answers.insert(outcome.answers.end(), worker.answers.begin(), worker.answers.end());
+  }
+  return outcome;
+}
+
 unsigned long long Number(std::uint64_t n) { return n; }
 
 void Print(const char* name, const Outcome& outcome) {
@@ -242,6 +348,15 @@ int main(int argc, char** argv) {
     std::printf("%llu keys: LevelDBClockCache is not as LevelDB's own\n", Number(kManyKeys));
     Print("LevelDB's own:", own);
     Print("LevelDBClockCache:", clock);
+  }
+  Fill(path + "/own", kManyKeys);
+  const Outcome own_work = Work(path + "/own", leveldb::NewLRUCache(4 << 20));
+  const Outcome clock_work = Work(path + "/many", lru::NewLevelDBClockCache(4 << 20));
+  if (own_work.answers != clock_work.answers || own_work.wrong + clock_work.wrong != 0) {
+    good = false;
+    std::printf("four threads: %llu answers are wrong with LevelDB's own cache, %llu with "
+                "LevelDBClockCache\n",
+                Number(own_work.wrong), Number(clock_work.wrong));
   }
   std::printf("leveldb: %llu keys, %llu reads and a scan; hits %s: %s\n", Number(kKeys),
               Number(kReads), hits.c_str(), good ? "equal to LevelDB's own cache" : "NOT EQUAL");

@@ -602,7 +602,6 @@ int main() {
   for (const NewCache new_cache : {Any, Blocks, Clock}) {
     Differences(new_cache);
     if (new_cache != Clock) EqualsOwn(new_cache);
-    if (new_cache == Clock && kHasThreadSanitizer) continue;
     Threads(new_cache, 4);
     Threads(new_cache, kThreads);
   }

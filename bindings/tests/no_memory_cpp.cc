@@ -4,7 +4,8 @@
 //
 // Each object must be deleted once, after a listener was told of it if the cache has accepted it,
 // and an insert that throws must leave the charges that it found. Where room was reserved, no table
-// may grow: the linker puts the functions that count requests before those of the C library.
+// may grow: the linker puts the functions that count requests before those of the C library. Tables
+// of an empty cache must give back what was reserved.
 //
 // Prints the answers, and to standard error the call that was refused. Exits with 1 if something is
 // wrong. tests/no_memory runs this with the first request refused, then with the second, and so on.
@@ -18,6 +19,7 @@
 #include <utility>
 
 #include "lru.hpp"
+#include "memory_of_entries.hpp"
 #include "random_calls.hpp"
 
 // How often and for how many bytes the library has requested memory.
@@ -252,6 +254,22 @@ std::size_t reserve(const Arguments&... arguments) {
   return reserved;
 }
 
+// Makes room for many values, and gives it back.
+template <class Cache, class... Arguments>
+void shrink(const Arguments&... arguments) {
+  constexpr std::size_t kRoom = 10000;
+  std::optional<Cache> cache;
+  repeated("new", [&] { cache.emplace(kRoom, lru::Seed(0), arguments...); });
+  const std::size_t before = AllocatedBytes();
+  repeated("reserve", [&] { cache->reserve(kRoom); });
+  const std::size_t reserved = AllocatedBytes();
+  if (!repeated("shrink_to_fit", [&] { return cache->shrink_to_fit(); })) wrong("it is not empty");
+  const std::size_t after = AllocatedBytes();
+  if (reserved < before + 48 * kRoom || after > before + kRoom) wrong("tables keep their memory");
+  repeated("insert", [&] { cache->insert(1, 1, 10); });
+  if (*repeated("get", [&] { return cache->get(1); }) != 10) wrong("a value is not its own");
+}
+
 // Spreads numbers evenly.
 struct Evenly {
   std::size_t operator()(std::uint64_t n) const { return static_cast<std::size_t>(n); }
@@ -269,6 +287,8 @@ int main() {
   const std::size_t four =
       reserve<lru::ShardedCache<std::uint64_t, std::uint64_t, Evenly>>(std::size_t{4});
   if (four == 0 || four >= 2 * one) wrong("the shards do not share what is reserved");
+  shrink<lru::Cache<std::uint64_t, std::uint64_t>>();
+  shrink<lru::ShardedCache<std::uint64_t, std::uint64_t>>(std::size_t{4});
   std::fflush(stdout);
   return failed;
 }

@@ -76,6 +76,29 @@ class PlainCache {
     return LRU_DONE;
   }
 
+  // A ready with another charge for the entry, after which idle ones may leave.
+  lru_code ready_with(std::uint64_t stamp, std::uint64_t value, std::uint64_t charge,
+                      std::vector<lru_gone>* gone) {
+    if (charge == 0) return LRU_NO_CHARGE;
+    const auto found = entries_.find(stamp);
+    if (found == entries_.end() || found->second.phase != Phase::kMaking) return LRU_STALE;
+    if (charge > UINT64_MAX - (total() - found->second.charge)) return LRU_OVERFLOW;
+    found->second.charge = charge;
+    ready(stamp, value);
+    settle(capacity_, gone);
+    return LRU_DONE;
+  }
+
+  // A ready_with, unless the capacity has no room for the charge.
+  lru_code ready_with_strictly(std::uint64_t stamp, std::uint64_t value, std::uint64_t charge,
+                               std::vector<lru_gone>* gone) {
+    const auto found = entries_.find(stamp);
+    if (charge != 0 && found != entries_.end() && found->second.phase == Phase::kMaking &&
+        !has_room(charge, found->second.charge))
+      return LRU_FULL;
+    return ready_with(stamp, value, charge, gone);
+  }
+
   lru_code fail(std::uint64_t stamp) {
     const auto found = entries_.find(stamp);
     if (found == entries_.end() || found->second.phase != Phase::kMaking) return LRU_STALE;
@@ -282,9 +305,10 @@ class PlainCache {
     return answer;
   }
 
-  // Whether a charge fits the capacity beside the entries that have a pin.
-  bool has_room(std::uint64_t charge) const {
-    const std::uint64_t pinned = pinned_charge();
+  // Whether a charge fits the capacity beside the entries that have a pin, of whose charges this
+  // one does not count.
+  bool has_room(std::uint64_t charge, std::uint64_t uncounted = 0) const {
+    const std::uint64_t pinned = pinned_charge() - uncounted;
     return pinned <= capacity_ && charge <= capacity_ - pinned;
   }
 

@@ -6,10 +6,14 @@
 //    role and the charge at the end must be equal too. The clock evicts other blocks: with it other
 //    reads are refused, and without a strict limit there must be at least half as many hits.
 //  - Four threads read, write, delete, iterate, compact and read snapshots of 20,000 keys at three
-//    capacities and with strict limits, and read them again once the database has been closed and
-//    opened. All answers must be right and equal, except that a strict limit may refuse reads, and
-//    that iterators may then skip keys: RocksDB's do so now and then, without an error, and with
-//    its own cache too. What they return must be right all the same.
+//    capacities and with strict limits, and of 200,000 keys at one capacity, and read them again
+//    once the database has been closed and opened. All answers must be right and equal, except that
+//    a strict limit may refuse reads, and that iterators may then skip keys: RocksDB's do so now
+//    and then, without an error, and with its own cache too. What they return must be right all the
+//    same.
+//  - One thread reads keys, and scans many others now and then. This cache must miss as often as
+//    RocksDB's own without priorities. With priorities, as by default, that misses fewer:
+//    docs/EMBEDDING.md has the numbers that are printed.
 //
 // Prints a line for each part, and exits with 1 if something differs.
 #include <algorithm>
@@ -44,7 +48,7 @@ using rocksdb::Status;
 
 constexpr std::uint64_t kThreads = 4;
 constexpr std::uint64_t kKeysPerThread = 5000;
-constexpr std::uint64_t kKeysToRead = 50000;  // per thread, though one thread reads them
+constexpr std::uint64_t kKeysToRead = 50000;  // per thread, also where one thread reads them
 constexpr std::uint64_t kReads = 40000;
 constexpr int kCalls = 6000;
 
@@ -292,6 +296,39 @@ Outcome Read(const std::string& path, const Caches& caches, bool is_strict) {
   return outcome;
 }
 
+// Reads between scans, with one thread.
+
+struct Misses {
+  std::uint64_t index_and_filter = 0, data = 0;
+};
+
+// 40,000 reads by key, and after each 1,000 of them a scan of 20,000 keys. Blocks that a scan needs
+// only once displace others, unless the cache prefers index and filter blocks, and those that were
+// used again.
+Misses ReadBetweenScans(const std::string& path, std::shared_ptr<Cache> cache) {
+  constexpr std::uint64_t kScanned = 20000;
+  const Caches even = {std::make_shared<Even>(std::move(cache)), nullptr};
+  rocksdb::Options options = OptionsFor(even, false);
+  options.disable_auto_compactions = true;
+  const std::unique_ptr<DB> db = Open(options, path);
+  Random random(1);
+  for (std::uint64_t read = 1; read <= kReads; read++) {
+    const auto [thread, n] = Asked(&random);
+    std::string value;
+    const Status status = db->Get(rocksdb::ReadOptions(), KeyOf(thread, n), &value);
+    if (!status.IsNotFound()) Check(status);
+    if (read % 1000 != 0) continue;
+    const std::unique_ptr<rocksdb::Iterator> scan(db->NewIterator(rocksdb::ReadOptions()));
+    scan->Seek(KeyOf(random.Below(kThreads), random.Below(kKeysToRead - kScanned)));
+    for (std::uint64_t step = 0; step < kScanned && scan->Valid(); step++) scan->Next();
+    Check(scan->status());
+  }
+  const rocksdb::Statistics& told = *options.statistics;
+  return {told.getTickerCount(rocksdb::BLOCK_CACHE_INDEX_MISS) +
+              told.getTickerCount(rocksdb::BLOCK_CACHE_FILTER_MISS),
+          told.getTickerCount(rocksdb::BLOCK_CACHE_DATA_MISS)};
+}
+
 // Four threads.
 
 // The versions of the keys of one thread. A key with the version 0 has no value.
@@ -300,13 +337,14 @@ using Versions = std::vector<std::uint64_t>;
 // The calls of one thread, on its own keys.
 class Worker {
  public:
-  Worker(DB* db, std::uint64_t thread, bool is_strict)
+  Worker(DB* db, std::uint64_t thread, std::uint64_t keys, bool is_strict)
       : db_(db),
         thread_(thread),
+        keys_(keys),
         is_strict_(is_strict),
         random_(thread + 100),
-        now_(kKeysPerThread, 1),
-        written_(kKeysPerThread, {1}) {}
+        now_(keys, 1),
+        written_(keys, {1}) {}
 
   void Run() {
     for (int call = 0; call < kCalls; call++) Call(random_.Below(1000));
@@ -316,7 +354,7 @@ class Worker {
   // Once the database has been opened again.
   void ReadAgain(DB* db) {
     db_ = db;
-    for (std::uint64_t n = 0; n < kKeysPerThread; n += 5) Get(rocksdb::ReadOptions(), n, now_);
+    for (std::uint64_t n = 0; n < keys_; n += 5) Get(rocksdb::ReadOptions(), n, now_);
   }
 
   Outcome outcome;
@@ -329,7 +367,7 @@ class Worker {
   }
 
   void Call(std::uint64_t kind) {
-    const std::uint64_t n = random_.Below(kKeysPerThread);
+    const std::uint64_t n = random_.Below(keys_);
     if (kind < 400) {
       Get(rocksdb::ReadOptions(), n, now_);
     } else if (kind < 650) {
@@ -351,7 +389,7 @@ class Worker {
     } else if (kind < 998) {
       Check(db_->Flush(rocksdb::FlushOptions()));
     } else {
-      const std::string first = Key(0), last = Key(kKeysPerThread);
+      const std::string first = Key(0), last = Key(keys_);
       const rocksdb::Slice begin = first, end = last;
       Check(db_->CompactRange(rocksdb::CompactRangeOptions(), &begin, &end));
     }
@@ -365,12 +403,12 @@ class Worker {
 
   void GetMany(std::uint64_t n) {
     std::vector<std::string> keys;
-    for (std::uint64_t i = 0; i < 8; i++) keys.push_back(Key((n + i * i) % kKeysPerThread));
+    for (std::uint64_t i = 0; i < 8; i++) keys.push_back(Key((n + i * i) % keys_));
     const std::vector<rocksdb::Slice> slices(keys.begin(), keys.end());
     std::vector<std::string> values;
     const std::vector<Status> statuses = db_->MultiGet(rocksdb::ReadOptions(), slices, &values);
     for (std::uint64_t i = 0; i < 8; i++) {
-      const std::uint64_t at = (n + i * i) % kKeysPerThread;
+      const std::uint64_t at = (n + i * i) % keys_;
       outcome.Add(statuses[i], AnswerOf(statuses[i], values[i]), Value(at, now_[at]));
     }
   }
@@ -387,8 +425,8 @@ class Worker {
     }
     if (is_strict_) return IterateStrictly(iterator.get(), is_forward);
     for (int step = 0; step < 30; step++) {
-      while (n < kKeysPerThread && versions[n] == 0) n = is_forward ? n + 1 : n - 1;
-      if (n >= kKeysPerThread) return;
+      while (n < keys_ && versions[n] == 0) n = is_forward ? n + 1 : n - 1;
+      if (n >= keys_) return;
       std::string answer = "none";
       if (iterator->Valid()) answer = iterator->key().ToString() + iterator->value().ToString();
       outcome.Add(iterator->status(), answer, Key(n) + Value(n, versions[n]));
@@ -445,7 +483,7 @@ class Worker {
   }
 
   DB* db_;
-  std::uint64_t thread_;
+  std::uint64_t thread_, keys_;
   bool is_strict_;
   Random random_;
   Versions now_;
@@ -456,14 +494,14 @@ class Worker {
 };
 
 // What the workers found, one after the other.
-Outcome Work(const std::string& path, const Caches& caches, bool is_strict) {
+Outcome Work(const std::string& path, const Caches& caches, std::uint64_t keys, bool is_strict) {
   const rocksdb::Options options = OptionsFor(caches, is_strict);
   Outcome all;
   {
     std::unique_ptr<DB> db = Open(options, path);
-    Fill(db.get(), kKeysPerThread);
+    Fill(db.get(), keys);
     std::vector<Worker> workers;
-    for (std::uint64_t t = 0; t < kThreads; t++) workers.emplace_back(db.get(), t, is_strict);
+    for (std::uint64_t t = 0; t < kThreads; t++) workers.emplace_back(db.get(), t, keys, is_strict);
     std::vector<std::thread> threads;
     for (Worker& worker : workers) threads.emplace_back(&Worker::Run, &worker);
     for (std::thread& thread : threads) thread.join();
@@ -581,6 +619,35 @@ void Compare(const char* what, std::initializer_list<std::size_t> capacities, bo
   std::printf("%s: %s %s\n", what, is_strict ? "refused" : "hits", numbers.c_str());
 }
 
+// What it costs that there are no priorities.
+void ComparePriorities(const std::string& path) {
+  // Without compactions beside the writes, the files are the same in each run.
+  rocksdb::Options options = OptionsFor(ByDefault(Kind::kOwn, 1 << 20, false), false);
+  options.disable_auto_compactions = true;
+  Fill(Open(options, path).get(), kKeysToRead);
+  for (const std::size_t capacity : {1 << 20, 4 << 20, 16 << 20}) {
+    rocksdb::LRUCacheOptions by_default;
+    by_default.capacity = capacity;
+    by_default.num_shard_bits = 0;
+    by_default.metadata_charge_policy = rocksdb::kDontChargeCacheMetadata;
+    const Misses with = ReadBetweenScans(path, rocksdb::NewLRUCache(by_default));
+    const auto without = [&](Kind kind) {
+      return ReadBetweenScans(path, WithOneShard(kind, capacity, false).blocks);
+    };
+    const Misses own = without(Kind::kOwn), blocks = without(Kind::kBlocks);
+    const Misses clock = without(Kind::kClock);
+    all_good &= own.index_and_filter == blocks.index_and_filter && own.data == blocks.data;
+    all_good &= with.index_and_filter <= blocks.index_and_filter;
+    std::printf(
+        "priorities, %zu MiB: misses of index and filter blocks, and of data: RocksDB's own %llu, "
+        "%llu, without priorities %llu, %llu, RocksDBBlockCache %llu, %llu, RocksDBClockCache "
+        "%llu, %llu\n",
+        capacity >> 20, Number(with.index_and_filter), Number(with.data),
+        Number(own.index_and_filter), Number(own.data), Number(blocks.index_and_filter),
+        Number(blocks.data), Number(clock.index_and_filter), Number(clock.data));
+  }
+}
+
 template <class OneCache>
 std::unique_ptr<Cache> Make(const lru::RocksDBCacheOptions& options) {
   return std::unique_ptr<Cache>(OneCache::New(options));
@@ -624,7 +691,10 @@ int main(int argc, char** argv) {
     return Read(path, caches, is_strict);
   };
   const auto work = [&](const Caches& caches, bool is_strict) {
-    return Work(work_path, caches, is_strict);
+    return Work(work_path, caches, kKeysPerThread, is_strict);
+  };
+  const auto work_on_all = [&](const Caches& caches, bool is_strict) {
+    return Work(work_path, caches, kKeysToRead, is_strict);
   };
   const auto same_numbers = [](const Outcome& one, const Outcome& other) {
     return one.answers == other.answers && SameNumbers(one, other);
@@ -637,7 +707,9 @@ int main(int argc, char** argv) {
   Compare("one thread", loose, false, WithOneShard, read, same_numbers);
   Compare("one thread, strict", strict, true, WithOneShard, read, same_refusals);
   Compare("four threads", loose, false, ByDefault, work, SameAnswers);
+  Compare("four threads, 200,000 keys", {1 << 20}, false, ByDefault, work_on_all, SameAnswers);
   Compare("four threads, strict", strict, true, WithOneShard, work, SameAnswers);
+  ComparePriorities(path + "/scanned");
   std::printf("RocksDB %d.%d: %llu keys: %s\n", ROCKSDB_MAJOR, ROCKSDB_MINOR,
               Number(kThreads * kKeysToRead),
               all_good ? "equal to RocksDB's own cache" : "NOT EQUAL");

@@ -23,6 +23,7 @@
 #include "before_add.hpp"
 #include "check.hpp"
 #include "deleted_once.hpp"
+#include "rocksdb/table.h"
 #include "rocksdb_clock_cache.h"
 #include "rocksdb_interface.hpp"
 
@@ -1679,6 +1680,57 @@ void Threads(std::shared_ptr<Cache> cache, int count) {
   CHECK(wrong == 0);
 }
 
+#if ROCKSDB_MAJOR != 7
+
+// The cache that a text names, or null.
+std::shared_ptr<Cache> FromText(const std::string& text) {
+  rocksdb::ConfigOptions config;
+  config.ignore_unsupported_options = false;
+  std::shared_ptr<Cache> cache;
+  CHECK(Cache::CreateFromString(config, text, &cache).ok() == (cache != nullptr));
+  return cache;
+}
+
+// Whether there is a cache that shows these options.
+bool Has(const std::shared_ptr<Cache>& cache, std::size_t capacity, int shards, int is_strict,
+         int charges_metadata) {
+  if (cache == nullptr) return false;
+  char text[160];
+  std::snprintf(text, sizeof text,
+                "    capacity : %zu\n    shards : %d\n    strict_capacity_limit : %d\n"
+                "    charges_metadata : %d\n",
+                capacity, shards, is_strict, charges_metadata);
+  return cache->GetPrintableOptions() == text;
+}
+
+// Text names a cache of this type, and its options.
+template <class OneCache>
+void IsCreatedFromText() {
+  const std::string name = OneCache::ClassName();
+  CHECK(FromText("id=" + name + "://64M") == nullptr);
+  for (int i = 0; i < 2; i++) lru::RegisterRocksDBCache<OneCache>();
+  const std::shared_ptr<Cache> simple = FromText("id=" + name + "://64M");
+  CHECK(Has(simple, 64 << 20, 64, 0, 0));
+  CHECK(simple != nullptr && simple->Name() == name);
+  CHECK(Has(FromText("id={" + name +
+                     "://capacity=1M;shards=3;strict_capacity_limit=true;charges_metadata=true}"),
+            1 << 20, 3, 1, 1));
+  CHECK(Has(FromText("id={" + name + "://capacity=64M;typical_charge=4M}"), 64 << 20, 4, 0, 0));
+  for (const char* wrong : {"x", "capacity=1M;shard=3", "capacity=a", "shards=1;64M"}) {
+    CHECK(FromText("id={" + name + "://" + wrong + "}") == nullptr);
+  }
+  are_all_refused = true;
+  CHECK(FromText("id=" + name + "://64M") == nullptr);
+  are_all_refused = false;
+  rocksdb::BlockBasedTableOptions table;
+  const std::string text = "block_cache={id=" + name + "://1M}";
+  rocksdb::GetBlockBasedTableOptionsFromString(rocksdb::ConfigOptions(), table, text, &table)
+      .PermitUncheckedError();
+  CHECK(Has(table.block_cache, 1 << 20, 2, 0, 0));
+}
+
+#endif
+
 }  // namespace
 
 int main() {
@@ -1697,9 +1749,7 @@ int main() {
     for (const std::size_t shards : {1u, 4u, 64u}) {
       Threads(lru::NewRocksDBCache(kThreadsCapacity, shards), count);
       Threads(lru::NewRocksDBBlockCache(kThreadsCapacity, shards), count);
-      if (!kHasThreadSanitizer) {
-        Threads(lru::NewRocksDBClockCache(kThreadsCapacity, shards), count);
-      }
+      Threads(lru::NewRocksDBClockCache(kThreadsCapacity, shards), count);
     }
   }
   // Each shard has a cache, a chain and two tables, or a clock and a reader.
@@ -1720,6 +1770,11 @@ int main() {
   ExpectsEntries();
   DeletersMayResize<lru::RocksDBCache>();
   DeletersMayResize<lru::RocksDBClockCache>();
+#if ROCKSDB_MAJOR != 7
+  IsCreatedFromText<lru::RocksDBCache>();
+  IsCreatedFromText<lru::RocksDBBlockCache>();
+  IsCreatedFromText<lru::RocksDBClockCache>();
+#endif
   std::printf("the caches for RocksDB, with 1, 4 and 8 threads: %d checks failed\n",
               failed_checks);
   return failed_checks == 0 ? 0 : 1;

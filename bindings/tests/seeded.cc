@@ -200,7 +200,7 @@ class Run {
   // Makes one random call on both caches. False if the answers differ. There are so many releases
   // that about half of the time some entries are idle.
   bool call() {
-    const std::uint64_t kind = random_.below(62);
+    const std::uint64_t kind = random_.below(66);
     if (kind < 7) return begin();
     if (kind < 10) return insert();
     if (kind < 11) return poll();
@@ -217,7 +217,8 @@ class Run {
     if (kind < 57) return random_.below(4) != 0 || prune();
     if (kind < 58) return reserve();
     if (kind < 60) return begin_strictly();
-    return insert_strictly();
+    if (kind < 62) return insert_strictly();
+    return ready_with();
   }
 
   bool begin() {
@@ -284,6 +285,25 @@ class Run {
     const lru_pin pin = any_pin();
     const std::uint64_t value = random_.below(UINT64_MAX);
     return lru_cache_ready(&cache_, pin, value) == plain_.ready(pin.stamp, value);
+  }
+
+  // Half of the time strictly, and now and then with a charge that is almost the largest.
+  bool ready_with() {
+    call_ = "ready_with";
+    const lru_pin pin = any_pin();
+    const std::uint64_t value = random_.below(UINT64_MAX);
+    const std::uint64_t charge = random_.below(8) == 0 ? UINT64_MAX - random_.below(2 * kCapacity)
+                                                       : random_.below(kCapacity / 2);
+    const bool strict = random_.below(2) == 0;
+    const bool is_within = plain_.total() <= plain_.capacity();
+    const lru_code code = lru_cache_ready_with(&cache_, pin, value, charge, strict, &chain_);
+    if (code == LRU_DONE) charged_++;
+    if (code == LRU_FULL) full_charges_++;
+    const lru_code expected = strict
+                                  ? plain_.ready_with_strictly(pin.stamp, value, charge, &gone_)
+                                  : plain_.ready_with(pin.stamp, value, charge, &gone_);
+    return code == expected && evicted() &&
+           (!strict || !is_within || lru_cache_total(&cache_).value <= plain_.capacity());
   }
 
   bool fail() {
@@ -434,7 +454,8 @@ class Run {
                         counted.misses >= kSteps / 50 && counted.waits > 0 &&
                         counted.removals > 0 && counted.evictions == evictions_ &&
                         repins_ >= kSteps / 200 && departures_ >= kSteps / 200 &&
-                        strict_ >= kSteps / 200 && full_ >= kSteps / 200;
+                        strict_ >= kSteps / 200 && full_ >= kSteps / 200 &&
+                        charged_ >= kSteps / 200 && full_charges_ > 0;
     if (!enough) std::printf("seeded: %s, seed %" PRIu64 ": too few\n", Family::name, seed_);
     return same && enough;
   }
@@ -453,6 +474,8 @@ class Run {
   std::size_t departures_ = 0;  // entries that a release_and_evict evicted
   std::size_t strict_ = 0;      // strict calls that found room, or needed none
   std::size_t full_ = 0;        // strict calls that found no room
+  std::size_t charged_ = 0;       // calls of ready_with that were not refused
+  std::size_t full_charges_ = 0;  // and those that found no room
   const char* call_ = "";
 };
 

@@ -130,7 +130,8 @@ static size_t text_of(unsigned key, char *text) { return (size_t)sprintf(text, "
 struct making {
     unsigned calls;
     bool fails;
-    uint64_t waits; /* how many callers to wait for, before the value is there */
+    uint64_t waits;  /* how many callers to wait for, before the value is there */
+    uint64_t charge; /* told with the value, if it is */
 };
 
 static bool make_object(void *context, const void *key, size_t length, uint64_t *value) {
@@ -146,10 +147,23 @@ static bool make_object(void *context, const void *key, size_t length, uint64_t 
     return true;
 }
 
+/* The same, with a charge that the cache does not know before. */
+static bool make_with_charge(void *context, const void *key, size_t length, uint64_t *value,
+                             uint64_t *charge) {
+    *charge = ((const struct making *)context)->charge;
+    return make_object(context, key, length, value);
+}
+
 static lru_code ask(unsigned key, uint64_t charge, struct making *making, lru_pinned *out) {
     char text[12];
     return lru_threads_get_or_init(cache, text, text_of(key, text), charge, make_object, making,
                                    out);
+}
+
+static lru_code ask_with(unsigned key, struct making *making, lru_pinned *out) {
+    char text[12];
+    return lru_threads_get_or_init_with(cache, text, text_of(key, text), make_with_charge, making,
+                                        out);
 }
 
 static lru_code get(unsigned key, lru_pinned *out) {
@@ -210,6 +224,42 @@ static void one_value(void) {
     close_cache(__LINE__);
 }
 
+/* The charge is told with the value. */
+static void charges(void) {
+    struct making making = {.charge = 4}, refused_one = {0};
+    lru_pinned pinned, other;
+    open_cache(5, 1);
+    use(1);
+    use(2);
+    CHECK(ask_with(3, &making, &pinned), LRU_HIT); /* with 4, one of the others has to leave */
+    CHECK(making.calls, 1);
+    CHECK(objects[pinned.value].key, 3);
+    CHECK(objects[0].deletions, 1);
+    CHECK(stats().charge, 5);
+    CHECK(stats().pinned_charge, 4);
+    CHECK(ask_with(3, &making, &other), LRU_HIT); /* is there, with its charge */
+    CHECK(other.value, pinned.value);
+    CHECK(making.calls, 1);
+    release(&other);
+    refused_one.fails = true;
+    CHECK(ask_with(4, &refused_one, &other), LRU_FAILED);
+    CHECK(objects[1].deletions, 1); /* with a charge of 1, it had no room beside that of 2 */
+    refused_one.fails = false;
+    CHECK(ask_with(4, &refused_one, &other), LRU_NO_CHARGE);
+    refused_one.charge = UINT64_MAX;
+    CHECK(ask_with(4, &refused_one, &other), LRU_OVERFLOW);
+    CHECK(refused_one.calls, 3);
+    CHECK(objects[3].deletions, 1); /* those that were refused */
+    CHECK(objects[4].deletions, 1);
+    CHECK(stats().removals, 3);
+    CHECK(get(4, &other), LRU_MISSED);
+    CHECK(lru_threads_get_or_init_with(cache, NULL, 1, make_with_charge, &making, &other),
+          LRU_NULL_KEY);
+    release(&pinned);
+    CHECK(stats().entries, 1);
+    close_cache(__LINE__);
+}
+
 static void eviction(void) {
     lru_pinned pinned;
     open_cache(3, 1);
@@ -266,6 +316,106 @@ static void replacing(void) {
     CHECK(invalidate(5), LRU_DONE);
     CHECK(objects[3].deletions, 1);
     CHECK(invalidate(5), LRU_DONE);
+    close_cache(__LINE__);
+}
+
+/* What a predicate was asked. */
+struct asked {
+    unsigned calls;
+    uint64_t charges;
+};
+
+static bool is_even(void *context, const void *key, size_t length, uint64_t value,
+                    uint64_t charge) {
+    struct asked *asked = (struct asked *)context;
+    char text[12] = "";
+    memcpy(text, key, length);
+    asked->calls++;
+    asked->charges += charge;
+    CHECK(strtoul(text, NULL, 10), objects[value].key);
+    return objects[value].key % 2 == 0;
+}
+
+/* A predicate chooses the values that are taken away. */
+static void erasing(void) {
+    struct asked asked = {0};
+    lru_pinned even, odd, replaced, found;
+    uint64_t erased = 99;
+    open_cache(100, 2);
+    CHECK(lru_threads_erase_if(cache, is_even, &asked, &erased), LRU_DONE);
+    CHECK(erased, 0);
+    CHECK(asked.calls, 0);
+    for (unsigned key = 1; key <= 10; key++)
+        use(key);
+    CHECK(get(4, &even), LRU_HIT);
+    CHECK(get(5, &odd), LRU_HIT);
+    CHECK(get(6, &replaced), LRU_HIT);
+    CHECK(insert(6, 5, new_object(6), &found), LRU_DONE);
+    CHECK(lru_threads_erase_if(cache, is_even, &asked, &erased), LRU_DONE);
+    CHECK(erased, 5);
+    CHECK(asked.calls, 10);
+    CHECK(asked.charges, 9 + 5); /* without the one that the key does not find */
+    for (unsigned key = 1; key <= 10; key++) {
+        lru_pinned pinned;
+        CHECK(get(key, &pinned), key % 2 == 0 ? LRU_MISSED : LRU_HIT);
+        if (key % 2 == 1)
+            release(&pinned);
+    }
+    CHECK(objects[even.value].deletions, 0);
+    release(&even);
+    CHECK(objects[even.value].deletions, 1);
+    release(&odd);
+    release(&found);
+    release(&replaced);
+    CHECK(stats().entries, 5);
+    close_cache(__LINE__);
+}
+
+static void clearing(void) {
+    lru_pinned pinned, cleared;
+    open_cache(100, 2);
+    CHECK(lru_threads_clear(cache), LRU_DONE);
+    for (unsigned key = 1; key <= 10; key++)
+        use(key);
+    CHECK(get(4, &pinned), LRU_HIT);
+    CHECK(lru_threads_clear(cache), LRU_DONE);
+    CHECK(stats().entries, 1);
+    CHECK(get(4, &cleared), LRU_MISSED);
+    use(4); /* makes another one */
+    CHECK(made, 11);
+    CHECK(objects[pinned.value].deletions, 0);
+    CHECK(lru_threads_clear(cache), LRU_DONE); /* the pinned one is not found any more */
+    CHECK(stats().entries, 1);
+    release(&pinned);
+    CHECK(stats().entries, 0);
+    close_cache(__LINE__);
+}
+
+/* Without memory, a predicate takes nothing away, and what is pinned may still be found. */
+static void no_memory_to_erase(void) {
+    struct asked asked = {0};
+    lru_pinned pinned;
+    uint64_t erased;
+    open_cache(100, 1);
+    use(2);
+    CHECK(get(2, &pinned), LRU_HIT);
+    for (unsigned requests = 1; requests <= 2; requests++) { /* the list, and room for the key */
+        refused = requests;
+        CHECK(lru_threads_erase_if(cache, is_even, &asked, &erased), LRU_MEMORY);
+        CHECK(refused, 0);
+        CHECK(erased, 0);
+        use(3);
+        refused = requests;
+        CHECK(lru_threads_clear(cache), LRU_MEMORY);
+        CHECK(refused, 0);
+        CHECK(stats().entries, 1);
+    }
+    CHECK(asked.calls, 0);
+    release(&pinned);
+    CHECK(get(2, &pinned), LRU_HIT);
+    release(&pinned);
+    CHECK(lru_threads_clear(cache), LRU_DONE);
+    CHECK(stats().entries, 0);
     close_cache(__LINE__);
 }
 
@@ -410,7 +560,9 @@ static void shards(void) {
  * see that one is missing. No value is deleted meanwhile. */
 static void locking(void) {
     struct making making = {0}, failing = {.fails = true};
+    struct asked asked = {0};
     lru_pinned pinned[3];
+    uint64_t erased;
     open_cache(100, 4);
     CHECK_LOCKS(get(1, &pinned[0]), 1);
     CHECK_LOCKS(ask(1, 1, &failing, &pinned[0]), 2 + 4); /* make_object takes those of all shards */
@@ -420,10 +572,13 @@ static void locking(void) {
     CHECK_LOCKS(release(&pinned[0]), 1);
     CHECK_LOCKS(invalidate(2), 1);
     CHECK_LOCKS(lru_threads_prune(cache), 4);
+    CHECK_LOCKS(lru_threads_erase_if(cache, is_even, &asked, &erased), 4);
     CHECK_LOCKS(lru_threads_set_capacity(cache, 200), 4);
     CHECK_LOCKS(stats(), 4);
     release(&pinned[1]);
     release(&pinned[2]);
+    lru_threads_prune(cache);
+    CHECK_LOCKS(lru_threads_clear(cache), 4);
     close_cache(__LINE__);
 }
 
@@ -493,11 +648,60 @@ static void waiting(bool fails) {
     close_cache(__LINE__);
 }
 
+/* The cache is cleared while a value is made: who waits for it gets it, and nobody later. */
+static void clearing_what_is_made(void) {
+    struct caller makers[2] = {{0}}, waiters[2] = {{0}};
+    lru_pinned pinned;
+    open_cache(100, 1);
+    for (unsigned i = 0; i < 2; i++) {
+        makers[i].making.waits = 2;
+        start(&makers[i]);
+        while (stats().misses < i + 1)
+            sched_yield();
+        start(&waiters[i]); /* once both wait, the makers go on */
+        if (i == 1)
+            break;
+        while (stats().waits < 1)
+            sched_yield();
+        CHECK(lru_threads_clear(cache), LRU_DONE);
+    }
+    for (int i = 0; i < 2; i++) {
+        CHECK(pthread_join(makers[i].thread, NULL), 0);
+        CHECK(pthread_join(waiters[i].thread, NULL), 0);
+        CHECK(makers[i].code, LRU_HIT);
+        CHECK(waiters[i].code, LRU_HIT);
+        CHECK(waiters[i].making.calls, 0);
+        CHECK(waiters[i].pinned.value, makers[i].pinned.value);
+    }
+    CHECK(get(7, &pinned), LRU_HIT);
+    CHECK(pinned.value, makers[1].pinned.value);
+    CHECK(pinned.value == makers[0].pinned.value, false);
+    release(&pinned);
+    for (int i = 0; i < 2; i++) {
+        release(&makers[i].pinned);
+        release(&waiters[i].pinned);
+    }
+    CHECK(stats().entries, 1);
+    close_cache(__LINE__);
+}
+
 /* --------------------------------------------------------------------------------------- stress */
 
 static unsigned next_random(unsigned *state, unsigned end) {
     *state = *state * 1664525u + 1013904223u;
     return (*state >> 8) % end;
+}
+
+/* Takes many values away, in one way or another. */
+static void take_away(unsigned key) {
+    struct asked asked = {0};
+    uint64_t erased;
+    if (key % 3 == 0)
+        lru_threads_prune(cache);
+    else if (key % 3 == 1)
+        CHECK(lru_threads_clear(cache), LRU_DONE);
+    else
+        CHECK(lru_threads_erase_if(cache, is_even, &asked, &erased), LRU_DONE);
 }
 
 /* Holds up to four values at a time. */
@@ -509,7 +713,7 @@ static void *stress_thread(void *at) {
     for (unsigned call = 0; call < CALLS; call++) {
         unsigned key = next_random(&state, KEYS), slot = next_random(&state, 4);
         uint64_t charge = 1 + next_random(&state, 4);
-        struct making making = {.fails = next_random(&state, 8) == 0};
+        struct making making = {.fails = next_random(&state, 8) == 0, .charge = charge};
         unsigned kind = next_random(&state, 40);
         lru_code code = LRU_MISSED;
         if (is_held[slot]) {
@@ -519,7 +723,7 @@ static void *stress_thread(void *at) {
         }
         keys[slot] = key;
         if (kind == 0 && next_random(&state, 20) == 0)
-            lru_threads_prune(cache);
+            take_away(key);
         else if (kind == 1)
             lru_threads_set_capacity(cache, 64 + next_random(&state, 128));
         else if (kind == 2)
@@ -528,6 +732,8 @@ static void *stress_thread(void *at) {
             code = insert(key, charge, new_object(key), &held[slot]);
         else if (kind < 9)
             code = get(key, &held[slot]);
+        else if (kind < 20)
+            code = ask_with(key, &making, &held[slot]);
         else
             code = ask(key, charge, &making, &held[slot]);
         is_held[slot] = code == LRU_HIT || code == LRU_DONE;
@@ -563,8 +769,12 @@ static void stress(size_t shard_count) {
 int main(void) {
     alarm(60);
     one_value();
+    charges();
     eviction();
     replacing();
+    erasing();
+    clearing();
+    no_memory_to_erase();
     refusals();
     no_memory();
     seeds();
@@ -572,6 +782,7 @@ int main(void) {
     locking();
     waiting(false);
     waiting(true);
+    clearing_what_is_made();
     stress(1);
     stress(4);
     printf("threads in C: %d checks failed\n", (int)failures);

@@ -8,8 +8,9 @@
 //!   moves from value to value takes one away, and evicts a value that has none.
 //! - Keys are written as words ([`WordsKey`]): integers, pairs of them, and the like. The cache
 //!   hashes them by itself, so it takes no hasher.
-//! - Dropping a handle evicts nothing. If pinned values took the total above the capacity, the next
-//!   call that stores a value evicts down to it.
+//! - Dropping a last handle evicts down to the capacity if the total is above it, as there. But if
+//!   another thread looks the value up at the same time, that may be left to the next call that
+//!   stores a value.
 //! - Values are evicted when a new one is stored, not when its making begins, and a value that is
 //!   being made does not count. So its charge need not be known before it is made
 //!   ([`get_or_init_with`](Cache::get_or_init_with)).
@@ -23,7 +24,6 @@
 //!   refused, and before the making begins too: only then it is known that all that is left is
 //!   pinned.
 //! - [`stats`](Cache::stats) counts what is made, stored and evicted, but no hits and misses.
-//! - It has no `advice_evict` and `release_and_evict`.
 //!
 //! A cache has a reader of each shard for each thread that calls it, in 64 bytes for four shards.
 //! When a thread ends, its readers are left for another one. They are freed with the cache.
@@ -64,6 +64,7 @@ use std::mem::ManuallyDrop;
 use std::num::NonZeroUsize;
 use std::ops::Deref;
 use std::panic::AssertUnwindSafe;
+use std::ptr;
 use std::sync::{Arc, MutexGuard};
 use std::task::{Context, Poll};
 use std::time::{Duration, Instant};
@@ -72,16 +73,12 @@ use crate::error::{self, GetError, Refusal};
 use crate::ffi;
 use crate::key::WordsKey;
 use crate::leaving::{Leaving, Reason};
-use crate::makings;
+use crate::makings::{self, UNKNOWN_CHARGE};
 use crate::proved::random_seed;
 use crate::sharded::{shards_for, share};
 
 use lanes::Lanes;
 use shard::{Left, Listener, Node, Pin, Route, Shard, State, Turn, told};
-
-/// A charge for the beginning of a making whose charge is told with the value. The library does not
-/// keep it.
-const UNKNOWN_CHARGE: u64 = 1;
 
 /// A cache of heavy values that threads share, whose hits take no lock.
 ///
@@ -92,8 +89,8 @@ const UNKNOWN_CHARGE: u64 = 1;
 ///
 /// Each shard has an equal share of the capacity, rounded up, and a lock, which every call takes
 /// that does not find a value. A value is evicted when its own shard is full. So if charges are
-/// larger than 1, choose the number of shards by [`shards_for`] and
-/// [`with_shards`](Self::with_shards).
+/// larger than 1, say about how large they are, by
+/// [`with_typical_charge`](Self::with_typical_charge).
 ///
 /// No lock is held while values are made, read, visited or dropped. So `init` and `Drop` of a value
 /// may be slow, may panic, and may call the cache. But `init` must not ask for the key whose value
@@ -163,7 +160,17 @@ impl<K: WordsKey + ?Sized, V> Cache<K, V> {
     ///
     /// [`Refusal::Memory`] if there is no memory for the cache.
     pub fn new(capacity: u64) -> Result<Self, Refusal> {
-        Self::with_shards(capacity, shards_for(capacity, 1))
+        Self::with_typical_charge(capacity, 1)
+    }
+
+    /// Creates an empty cache with the number of shards that [`shards_for`] returns for charges of
+    /// about this size, which is 1 for [`Cache::new`].
+    ///
+    /// # Errors
+    ///
+    /// [`Refusal::Memory`] if there is no memory for the cache.
+    pub fn with_typical_charge(capacity: u64, charge: u64) -> Result<Self, Refusal> {
+        Self::with_shards(capacity, shards_for(capacity, charge))
     }
 
     /// Creates an empty cache with the given number of shards.
@@ -818,6 +825,28 @@ impl<K: WordsKey + ?Sized, V> Cache<K, V> {
         Ok(())
     }
 
+    /// Evicts the key's value if it is idle. If it has a handle, nothing changes, except that this
+    /// counts as a use of it.
+    ///
+    /// # Errors
+    ///
+    /// None: this call is never refused.
+    pub fn advice_evict<Q>(&self, key: &Q) -> Result<(), Refusal>
+    where
+        K: Borrow<Q>,
+        Q: WordsKey<Form = K::Form> + ?Sized,
+    {
+        let route = self.route(key);
+        let mut left = self.left();
+        let mut state = self.shards[route.shard].lock();
+        // A value that cannot be pinned once more is not idle.
+        if let Ok(Some(pin)) = state.find(route) {
+            state.release_and_evict(pin.place, &mut left);
+        }
+        drop(state);
+        Ok(())
+    }
+
     /// Evicts every idle value, one shard after another.
     pub fn prune(&self) {
         for shard in &self.shards {
@@ -1234,6 +1263,15 @@ impl<K: WordsKey + ?Sized, V> Cache<K, V> {
         }
     }
 
+    /// Gives back the pin of a handle, which is not used again, and evicts the value if the handle
+    /// was its last.
+    fn release_and_evict(&self, shard: usize, place: u32) {
+        let mut left = self.left();
+        self.shards[shard]
+            .lock()
+            .release_and_evict(place, &mut left);
+    }
+
     /// Gives back the pin of a handle, which is not used again.
     #[inline]
     fn unpin(&self, shard: usize, place: u32) {
@@ -1242,7 +1280,7 @@ impl<K: WordsKey + ?Sized, V> Cache<K, V> {
             // SAFETY: only this thread uses the reader.
             code = unsafe { ffi::lru_reader_unpin(reader, place) };
         }
-        if code != ffi::DONE && code != ffi::ABOVE {
+        if code != ffi::DONE {
             self.unpin_locked(shard, place, code);
         }
     }
@@ -1251,13 +1289,14 @@ impl<K: WordsKey + ?Sized, V> Cache<K, V> {
     #[cold]
     fn unpin_locked(&self, shard: usize, place: u32, code: u32) {
         let mut left = self.left();
-        // The lock is released at the end of each arm, before the value is dropped.
-        match code {
-            ffi::LAST => self.shards[shard].lock().collect(place, &mut left),
-            ffi::CLOSED => self.lock_after(code, shard).unpin(place, &mut left),
-            // The pin was given back.
-            _ => {}
+        let mut state = self.lock_after(code, shard);
+        if code == ffi::CLOSED {
+            state.unpin(place, &mut left);
+        } else {
+            state.finish_unpin(code, place, &mut left);
         }
+        // The lock is released before values are dropped.
+        drop(state);
     }
 }
 
@@ -1388,7 +1427,7 @@ impl<'a, K: WordsKey + ?Sized, V> Maker<'a, K, V> {
     /// use concurrent_lru_proved::clock::Cache;
     ///
     /// # fn main() -> Result<(), concurrent_lru_proved::Refusal> {
-    /// let cache = Cache::<u64, Vec<u8>>::new(1000)?;
+    /// let cache = Cache::<u64, Vec<u8>>::new(10_000)?;
     /// if let Begun::Make(maker) = cache.begin(&7, 1)? {
     ///     let bytes = vec![0; 100];
     ///     let charge = bytes.len() as u64;
@@ -1497,6 +1536,26 @@ impl<K: WordsKey + ?Sized, V> Drop for Waiter<'_, K, V> {
 ///
 /// Without its last handle the value is idle. If a handle is forgotten, its value stays until the
 /// cache is dropped.
+///
+/// Other threads may have a handle, or a reference to one, only if values can be shared and sent:
+///
+/// ```compile_fail,E0277
+/// use concurrent_lru_proved::clock::CacheHandle;
+/// use std::cell::Cell;
+///
+/// fn send<T: Send>() {}
+///
+/// send::<CacheHandle<'static, u64, Cell<u64>>>();
+/// ```
+///
+/// ```compile_fail,E0277
+/// use concurrent_lru_proved::clock::CacheHandle;
+/// use std::sync::MutexGuard;
+///
+/// fn share<T: Sync>() {}
+///
+/// share::<CacheHandle<'static, u64, MutexGuard<'static, u64>>>();
+/// ```
 pub struct CacheHandle<'a, K: WordsKey + ?Sized, V> {
     cache: &'a Cache<K, V>,
     /// The number of the shard that has the entry.
@@ -1548,6 +1607,32 @@ impl<K: WordsKey + ?Sized, V> CacheHandle<'_, K, V> {
         self.cache.pin_again(self.shard, self.pin)
     }
 
+    /// Drops the handle, with the lock of the shard, and evicts the value at once if this was its
+    /// last handle, in place of leaving it idle.
+    ///
+    /// If the value has another handle, this is the same as [`drop`].
+    ///
+    /// # Examples
+    ///
+    /// ```
+    /// use concurrent_lru_proved::clock::Cache;
+    ///
+    /// # fn main() -> Result<(), concurrent_lru_proved::Refusal> {
+    /// let cache = Cache::<u64, String>::new(10)?;
+    /// let first = cache.insert(&7, 1, "seven".to_string())?;
+    /// let second = first.try_clone()?;
+    /// first.release_and_evict();
+    /// assert!(cache.contains(&7)?);
+    /// second.release_and_evict();
+    /// assert!(!cache.contains(&7)?);
+    /// # Ok(())
+    /// # }
+    /// ```
+    pub fn release_and_evict(self) {
+        let this = ManuallyDrop::new(self);
+        this.cache.release_and_evict(this.shard, this.pin.place);
+    }
+
     fn node(&self) -> &Node<V> {
         // SAFETY: the handle has a pin of the entry, so its node is not dropped before the handle
         // is. Nothing has mutable access to a node in the cache.
@@ -1581,6 +1666,26 @@ impl<K: WordsKey + ?Sized, V> Drop for CacheHandle<'_, K, V> {
 ///
 /// Calls such as [`Cache::get_owned`] return it for a cache in an [`Arc`]. If a value of the cache
 /// has such a handle of the same cache, neither is ever dropped.
+///
+/// It can be sent and shared as a [`CacheHandle`]:
+///
+/// ```compile_fail,E0277
+/// use concurrent_lru_proved::clock::OwnedHandle;
+/// use std::cell::Cell;
+///
+/// fn send<T: Send>() {}
+///
+/// send::<OwnedHandle<u64, Cell<u64>>>();
+/// ```
+///
+/// ```compile_fail,E0277
+/// use concurrent_lru_proved::clock::OwnedHandle;
+/// use std::sync::MutexGuard;
+///
+/// fn share<T: Sync>() {}
+///
+/// share::<OwnedHandle<u64, MutexGuard<'static, u64>>>();
+/// ```
 pub struct OwnedHandle<K: WordsKey + ?Sized, V> {
     cache: Arc<Cache<K, V>>,
     /// The number of the shard that has the entry.
@@ -1623,6 +1728,16 @@ impl<K: WordsKey + ?Sized, V> OwnedHandle<K, V> {
     pub fn try_clone(&self) -> Result<Self, Refusal> {
         let handle = self.cache.pin_again(self.shard, self.pin)?;
         Ok(OwnedHandle::of(&self.cache, handle))
+    }
+
+    /// Drops the handle, and evicts the value at once if this was its last handle, as
+    /// [`CacheHandle::release_and_evict`] does.
+    pub fn release_and_evict(self) {
+        let this = ManuallyDrop::new(self);
+        // SAFETY: `this` is not dropped, so only the copy drops the `Arc`. No other field of a
+        // handle has to be dropped.
+        let cache = unsafe { ptr::read(&this.cache) };
+        cache.release_and_evict(this.shard, this.pin.place);
     }
 }
 

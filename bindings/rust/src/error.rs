@@ -6,7 +6,8 @@ use std::error::Error;
 use std::fmt;
 use std::io;
 
-/// The reason why the cache refused a call. The cache did not change, unless the call says so.
+/// The reason why the cache refused a call. The cache did not change, unless the call says so. If
+/// there are several reasons, this may be any of them.
 #[derive(Debug, Clone, Copy, PartialEq, Eq, Hash)]
 #[non_exhaustive]
 pub enum Refusal {

@@ -154,6 +154,16 @@ unsafe extern "C" {
         place: usize,
         value: u64,
     ) -> u32;
+    pub fn lru_cache_ready_with_at(
+        cache: *mut Handle,
+        stamp: u64,
+        hash: u64,
+        place: usize,
+        value: u64,
+        charge: u64,
+        strict: bool,
+        gone: *mut Handle,
+    ) -> u32;
     pub fn lru_cache_fail(cache: *mut Handle, pin: Pin) -> u32;
     pub fn lru_cache_repin(cache: *mut Handle, pin: Pin) -> Told;
     pub fn lru_cache_release_at(
@@ -224,6 +234,7 @@ unsafe extern "C" {
         second: u64,
         left: *mut Left,
     ) -> u32;
+    pub fn lru_clock_release_and_evict(clock: *mut Handle, place: u32, left: *mut Left) -> u32;
     pub fn lru_clock_collect(clock: *mut Handle, place: u32, left: *mut Left) -> u32;
     pub fn lru_clock_prune(clock: *mut Handle, next: *mut u32, left: *mut Left) -> u32;
     pub fn lru_clock_set_capacity(clock: *mut Handle, capacity: u64) -> u32;

@@ -26,8 +26,9 @@
 //!   divided among fewer than 16 shards ([`sharded::shards_for`]).
 //! - It has more calls: `insert`, `invalidate`, `clear`, `retain`, `read`, `contains`, `len`,
 //!   `pinned_charge`, `capacity`, `set_capacity`, `set_strict_limit`, `is_limit_strict`, `reserve`,
-//!   `for_each`, `stats`, `with_listener`, and those that return an [`unsharded::OwnedHandle`], a
-//!   handle that keeps its cache alive. Handles have `try_clone` and `release_and_evict`.
+//!   `shrink_to_fit`, `for_each`, `stats`, `with_listener`, and those that return an
+//!   [`unsharded::OwnedHandle`], a handle that keeps its cache alive. Handles have `try_clone` and
+//!   `release_and_evict`.
 //! - `begin` and `try_begin` return a handle or an [`unsharded::Maker`], a guard of the making.
 //!   Calls whose names end in `_async` are for tasks, on any runtime.
 //!

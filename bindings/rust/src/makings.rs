@@ -9,6 +9,9 @@ use crate::error::{Refusal, room};
 use crate::ffi::Pin;
 use crate::waiting::WaitList;
 
+/// A charge for the beginning of a making whose charge is told with the value.
+pub(crate) const UNKNOWN_CHARGE: u64 = 1;
+
 /// What a caller that asks for a value gets: `H` is a handle, and `M` a guard of the making.
 #[derive(Debug)]
 pub enum Begun<H, M> {

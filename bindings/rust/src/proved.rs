@@ -21,6 +21,9 @@ pub(crate) enum Asked<V> {
     Hit(Pin, NonNull<V>),
 }
 
+/// A value that was stored; or why not, and the value.
+pub(crate) type Stored<V> = Result<NonNull<V>, (Refusal, Box<V>)>;
+
 /// A cache of the library for keys of one form, with values in boxes. The library stores the
 /// address of a box, which the core owns from `ready` or `insert` until the entry is evicted.
 ///
@@ -31,10 +34,12 @@ pub(crate) struct Core<F: Form, V> {
     cache: Handle,
     /// Where the library puts evicted entries. Empty between calls.
     chain: Handle,
-    /// Whether `begin` and `insert` are strict.
+    /// Whether `begin`, `ready_with` and `insert` are strict.
     strict: bool,
     /// If there is a listener.
     keys: Option<Keys<F>>,
+    /// What was counted before the cache was opened in place of another one.
+    before: ffi::Stats,
     form: PhantomData<fn() -> F>,
     values: PhantomData<Box<V>>,
 }
@@ -50,6 +55,7 @@ impl<F: Form, V> Core<F, V> {
             chain: Handle::CLOSED,
             strict: false,
             keys: None,
+            before: ffi::Stats::default(),
             form: PhantomData,
             values: PhantomData,
         };
@@ -100,6 +106,39 @@ impl<F: Form, V> Core<F, V> {
         };
         debug_assert_eq!(code, ffi::DONE);
         value_of(word)
+    }
+
+    /// Stores the value that the caller was asked to make, with a charge that takes the place of
+    /// the one with which its entry was begun. If it is refused, as it is if the limit is strict
+    /// and the capacity has no room, returns the value, and nothing has changed.
+    pub(crate) fn ready_with(
+        &mut self,
+        pin: Pin,
+        value: Box<V>,
+        charge: u64,
+        evicted: &mut Evicted<'_, F, V>,
+    ) -> Stored<V> {
+        let word = word_of(Box::into_raw(value));
+        // SAFETY: this core has the only copies of both handles.
+        let code = unsafe {
+            ffi::lru_cache_ready_with_at(
+                &mut self.cache,
+                pin.stamp,
+                pin.hash,
+                pin.place,
+                word,
+                charge,
+                self.strict,
+                &mut self.chain,
+            )
+        };
+        if code == ffi::DONE {
+            self.take_evicted(evicted, Reason::Evicted);
+            return Ok(value_of(word));
+        }
+        // SAFETY: as in `insert`.
+        let value = unsafe { Box::from_raw(value_of(word).as_ptr()) };
+        Err((refusal(code), value))
     }
 
     /// Tells that the caller could not make the value, and gives its pin back. Returns whether
@@ -277,6 +316,24 @@ impl<F: Form, V> Core<F, V> {
         done(code)
     }
 
+    /// If there is no entry, opens a cache in place of this one, whose tables take no memory.
+    /// Returns whether it did. If it is refused, nothing has changed.
+    pub(crate) fn shrink(&mut self, seed: u64) -> Result<bool, Refusal> {
+        if self.len() != 0 {
+            return Ok(false);
+        }
+        let capacity = self.capacity();
+        let mut fresh = Handle::CLOSED;
+        // SAFETY: the cache is closed, and there is no other copy of it.
+        let code = unsafe { ffi::lru_cache_new(CallsOf::<F>::KIND, capacity, seed, &mut fresh) };
+        done(code)?;
+        self.before = self.stats();
+        // SAFETY: this core has the only copies of both handles.
+        unsafe { ffi::lru_cache_free(&mut self.cache, &mut self.chain) };
+        self.cache = fresh;
+        Ok(true)
+    }
+
     /// The total of the charges of all entries.
     pub(crate) fn total(&mut self) -> u64 {
         // SAFETY: this core has the only copy of the handle.
@@ -432,7 +489,16 @@ impl<F: Form, V> Core<F, V> {
         // SAFETY: this core has the only copy of the handle.
         let code = unsafe { ffi::lru_cache_stats(&mut self.cache, &mut stats) };
         debug_assert_eq!(code, ffi::DONE);
-        stats
+        let before = self.before;
+        ffi::Stats {
+            hits: stats.hits.saturating_add(before.hits),
+            misses: stats.misses.saturating_add(before.misses),
+            waits: stats.waits.saturating_add(before.waits),
+            insertions: stats.insertions.saturating_add(before.insertions),
+            evictions: stats.evictions.saturating_add(before.evictions),
+            removals: stats.removals.saturating_add(before.removals),
+            ..stats
+        }
     }
 
     #[inline]
@@ -496,8 +562,8 @@ impl<F: Form, V> Core<F, V> {
         let mut next = first;
         while let Some(gone) = next {
             let value = value_of(gone.value).as_ptr();
-            // SAFETY: the word is the address of a box that `ready` or `insert` stored. The library
-            // tells each word once, and only when its entry has no pin.
+            // SAFETY: the word is the address of a box that `ready`, `ready_with` or `insert`
+            // stored. The library tells each word once, and only when its entry has no pin.
             let value = unsafe { Box::from_raw(value) };
             let keys = self.keys.as_mut();
             let departure = keys.and_then(|keys| keys.remove(gone.stamp, gone.charge, reason));

@@ -46,8 +46,8 @@ pub fn shards_for(capacity: u64, charge: u64) -> NonZeroUsize {
 /// Each shard is an [`unsharded::LruCache`] with its own lock and an equal share of the capacity,
 /// rounded up. The hasher chooses the shard of a key. Threads contend less, but a value is evicted
 /// when its own shard is full. A shard whose share is smaller than a value's charge does not keep
-/// that value once it is idle. So if charges are larger than 1, choose the number of shards by
-/// [`shards_for`] and [`LruCache::with_shards`].
+/// that value once it is idle. So if charges are larger than 1, say about how large they are, by
+/// [`LruCache::with_typical_charge`].
 ///
 /// # Examples
 ///
@@ -77,10 +77,11 @@ impl<K: Key + ?Sized, V> LruCache<K, V> {
     ///
     /// [`Refusal::Memory`] if there is no memory for the cache.
     pub fn new(capacity: u64) -> Result<Self, Refusal> {
-        LruCache::with_shards(capacity, shards_for(capacity, 1))
+        LruCache::with_typical_charge(capacity, 1)
     }
 
-    /// Creates an empty cache with the given number of shards.
+    /// Creates an empty cache with the number of shards that [`shards_for`] returns for charges of
+    /// about this size, which is 1 for [`LruCache::new`].
     ///
     /// # Errors
     ///
@@ -89,17 +90,25 @@ impl<K: Key + ?Sized, V> LruCache<K, V> {
     /// # Examples
     ///
     /// ```
-    /// use concurrent_lru_proved::sharded::{LruCache, shards_for};
+    /// use concurrent_lru_proved::sharded::LruCache;
     ///
     /// # fn main() -> Result<(), concurrent_lru_proved::Refusal> {
     /// const PAGE: u64 = 4096;
-    /// let capacity = 100_000; // bytes
-    /// let pages = LruCache::<u64, Vec<u8>>::with_shards(capacity, shards_for(capacity, PAGE))?;
+    /// let pages = LruCache::<u64, Vec<u8>>::with_typical_charge(100_000, PAGE)?; // bytes
     /// pages.insert(&7, PAGE, vec![0; 4096])?;
     /// assert!(pages.contains(&7)?);
     /// # Ok(())
     /// # }
     /// ```
+    pub fn with_typical_charge(capacity: u64, charge: u64) -> Result<Self, Refusal> {
+        LruCache::with_shards(capacity, shards_for(capacity, charge))
+    }
+
+    /// Creates an empty cache with the given number of shards.
+    ///
+    /// # Errors
+    ///
+    /// [`Refusal::Memory`] if there is no memory for the cache.
     pub fn with_shards(capacity: u64, shards: NonZeroUsize) -> Result<Self, Refusal> {
         LruCache::with_shards_hasher(capacity, shards, RandomState::new())
     }
@@ -182,6 +191,21 @@ impl<K: Key + ?Sized, V, S> LruCache<K, V, S> {
         self.shards
             .iter()
             .try_for_each(|shard| shard.reserve(share))
+    }
+
+    /// Gives back the memory of the tables of each shard that has no value, as
+    /// [`unsharded::LruCache::shrink_to_fit`] does, and returns whether all of them did.
+    ///
+    /// # Errors
+    ///
+    /// As [`unsharded::LruCache::shrink_to_fit`]. The shards before the one that refused have been
+    /// served then.
+    pub fn shrink_to_fit(&self) -> Result<bool, Refusal> {
+        let mut all = true;
+        for shard in &self.shards {
+            all &= shard.shrink_to_fit()?;
+        }
+        Ok(all)
     }
 
     /// Evicts every idle value, one shard after another.
@@ -363,6 +387,45 @@ impl<K: Key + ?Sized, V, S: BuildHasher> LruCache<K, V, S> {
         Q: Key<Form = K::Form> + Hash + ?Sized,
     {
         let handle = self.shard(key).get_or_try_init(key, charge, init)?;
+        Ok(CacheHandle(handle))
+    }
+
+    /// Returns a handle of the key's value. If there is none, `init` makes it, and returns it with
+    /// its charge, while other callers that ask for the key wait.
+    ///
+    /// # Errors
+    ///
+    /// As [`unsharded::LruCache::get_or_init_with`].
+    pub fn get_or_init_with<Q>(
+        &self,
+        key: &Q,
+        init: impl FnOnce(&Q) -> (V, u64),
+    ) -> Result<CacheHandle<'_, K, V>, Refusal>
+    where
+        K: Borrow<Q>,
+        Q: Key<Form = K::Form> + Hash + ?Sized,
+    {
+        let handle = self.shard(key).get_or_init_with(key, init)?;
+        Ok(CacheHandle(handle))
+    }
+
+    /// Returns a handle of the key's value. If there is none, `init` makes it, and returns it with
+    /// its charge, while other callers that ask for the key wait; if it fails, one of them makes
+    /// the value.
+    ///
+    /// # Errors
+    ///
+    /// As [`unsharded::LruCache::get_or_try_init_with`].
+    pub fn get_or_try_init_with<Q, E>(
+        &self,
+        key: &Q,
+        init: impl FnOnce(&Q) -> Result<(V, u64), E>,
+    ) -> Result<CacheHandle<'_, K, V>, GetError<E>>
+    where
+        K: Borrow<Q>,
+        Q: Key<Form = K::Form> + Hash + ?Sized,
+    {
+        let handle = self.shard(key).get_or_try_init_with(key, init)?;
         Ok(CacheHandle(handle))
     }
 
@@ -651,6 +714,15 @@ impl<'a, K: Key + ?Sized, V> Maker<'a, K, V> {
     /// Makes `value` the value, as [`unsharded::Maker::ready`] does.
     pub fn ready(self, value: V) -> CacheHandle<'a, K, V> {
         CacheHandle(self.0.ready(value))
+    }
+
+    /// Makes `value` the value with this charge, as [`unsharded::Maker::ready_with`] does.
+    ///
+    /// # Errors
+    ///
+    /// As [`unsharded::Maker::ready_with`].
+    pub fn ready_with(self, value: V, charge: u64) -> Result<CacheHandle<'a, K, V>, Refusal> {
+        Ok(CacheHandle(self.0.ready_with(value, charge)?))
     }
 }
 

@@ -44,7 +44,8 @@ pub struct Stats {
     pub removals: u64,
     /// Values that were made, by an `init` or by other holders of a `Maker`.
     pub loads: u64,
-    /// Values that could not be made: `init` failed, panicked or was dropped, or a `Maker` was.
+    /// Values that could not be made: `init` failed, panicked or was dropped, a `Maker` was, or the
+    /// cache refused the charge that was told with the value.
     pub load_failures: u64,
     /// The time that these took in all, from the call that was to make the value until it was made
     /// or could not be made. Zero unless the cache was created `with_load_times`.

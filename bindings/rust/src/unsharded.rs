@@ -19,8 +19,8 @@ use crate::ffi::{Gone, Pin};
 use crate::form::{self, Form, Hashed, Written};
 use crate::key::Key;
 use crate::leaving::{Evicted, Leaving, Listener, Reason};
-use crate::makings::{self, Loads, Makings};
-use crate::proved::{Asked, Core, random_seed};
+use crate::makings::{self, Loads, Makings, UNKNOWN_CHARGE};
+use crate::proved::{Asked, Core, Stored, random_seed};
 use crate::stats::Stats;
 use crate::waiting::Sleepers;
 
@@ -118,14 +118,36 @@ impl<F: Form, V> Shared<F, V> {
     /// Stores the value that the caller has made.
     fn ready(&mut self, pin: Pin, value: Box<V>) -> (NonNull<V>, Sleepers) {
         let value = self.core.ready(pin, value);
+        (value, self.end(pin))
+    }
+
+    /// Stores the value that the caller has made, with its charge. If the core refuses it, the
+    /// making has failed.
+    fn ready_with(
+        &mut self,
+        pin: Pin,
+        value: Box<V>,
+        charge: u64,
+        evicted: &mut Evicted<'_, F, V>,
+    ) -> (Stored<V>, Sleepers) {
+        let made = self.core.ready_with(pin, value, charge, evicted);
+        let sleepers = match made {
+            Ok(_) => self.end(pin),
+            Err(_) => self.fail(pin),
+        };
+        (made, sleepers)
+    }
+
+    /// Ends a making whose value is stored.
+    fn end(&mut self, pin: Pin) -> Sleepers {
         let Some(mut making) = self.makings.remove(pin) else {
-            return (value, Sleepers::default());
+            return Sleepers::default();
         };
         // The caller has a pin too, so nothing is evicted.
         for _ in 0..making.left() {
             self.core.unpin(pin);
         }
-        (value, making.wait_list.sleepers())
+        making.wait_list.sleepers()
     }
 
     /// Tells that the caller could not make the value, and gives its pin back.
@@ -361,11 +383,103 @@ impl<K: Key + ?Sized, V> LruCache<K, V> {
         }
     }
 
+    /// Returns a handle of the key's value. If there is none, `init` makes it, and returns it with
+    /// its charge.
+    ///
+    /// This is [`get_or_init`](Self::get_or_init) for a charge that is not known before the value,
+    /// as the length of a file that is read. While the value is made, it counts for 1.
+    ///
+    /// # Errors
+    ///
+    /// Before `init` runs, as [`get_or_init`](Self::get_or_init) with a charge of 1. Afterwards
+    /// [`Refusal::ZeroCharge`], [`Refusal::Overflow`] or [`Refusal::Full`] if the cache refuses the
+    /// charge that `init` returns, as [`Maker::ready_with`] says: the value is dropped, and if
+    /// others are waiting, one of them makes the value.
+    ///
+    /// # Examples
+    ///
+    /// ```
+    /// use concurrent_lru_proved::unsharded::LruCache;
+    ///
+    /// # fn main() -> Result<(), concurrent_lru_proved::Refusal> {
+    /// let cache = LruCache::<u64, String>::new(1000)?;
+    /// let handle = cache.get_or_init_with(&7, |key| {
+    ///     let text = format!("the number {key}");
+    ///     let charge = text.len() as u64;
+    ///     (text, charge)
+    /// })?;
+    /// assert_eq!((&**handle, cache.total_charge()), ("the number 7", 12));
+    /// # Ok(())
+    /// # }
+    /// ```
+    #[inline]
+    pub fn get_or_init_with<Q>(
+        &self,
+        key: &Q,
+        init: impl FnOnce(&Q) -> (V, u64),
+    ) -> Result<CacheHandle<'_, K, V>, Refusal>
+    where
+        K: Borrow<Q>,
+        Q: Key<Form = K::Form> + ?Sized,
+    {
+        self.get_or_try_init_with(key, |key| Ok::<_, Infallible>(init(key)))
+            .map_err(GetError::into_refusal)
+    }
+
+    /// Returns a handle of the key's value. If there is none, `init` makes it, and returns it with
+    /// its charge, or fails.
+    ///
+    /// This is [`get_or_try_init`](Self::get_or_try_init) for a charge that is not known before the
+    /// value.
+    ///
+    /// # Errors
+    ///
+    /// [`GetError::Init`] with the error of `init`, and [`GetError::Refused`] in the cases of
+    /// [`get_or_init_with`](Self::get_or_init_with).
+    ///
+    /// # Examples
+    ///
+    /// ```no_run
+    /// use concurrent_lru_proved::unsharded::LruCache;
+    /// use std::{fs, io};
+    ///
+    /// # fn main() -> io::Result<()> {
+    /// // A megabyte of parts of a file.
+    /// let parts = LruCache::<u64, Vec<u8>>::new(1 << 20)?;
+    /// let part = parts.get_or_try_init_with(&7, |number| {
+    ///     let bytes = fs::read(format!("part_{number}"))?;
+    ///     let charge = bytes.len() as u64 + 64;
+    ///     Ok::<_, io::Error>((bytes, charge))
+    /// })?;
+    /// println!("{} bytes", part.len());
+    /// # Ok(())
+    /// # }
+    /// ```
+    #[inline]
+    pub fn get_or_try_init_with<Q, E>(
+        &self,
+        key: &Q,
+        init: impl FnOnce(&Q) -> Result<(V, u64), E>,
+    ) -> Result<CacheHandle<'_, K, V>, GetError<E>>
+    where
+        K: Borrow<Q>,
+        Q: Key<Form = K::Form> + ?Sized,
+    {
+        match self.begin(key, UNKNOWN_CHARGE)? {
+            Begun::Hit(handle) => Ok(handle),
+            Begun::Make(maker) => {
+                let (value, charge) = init(key).map_err(GetError::Init)?;
+                Ok(maker.ready_with(value, charge)?)
+            }
+        }
+    }
+
     /// Returns a handle of the key's value, or a guard with which the caller makes it.
     ///
     /// This is [`get_or_init`](Self::get_or_init) for a caller that does not make the value by a
     /// function. Other callers that ask for the key wait until it calls [`Maker::ready`], or drops
-    /// the guard: one of them makes the value then.
+    /// the guard: one of them makes the value then. If the charge is not known yet, pass 1, and
+    /// call [`Maker::ready_with`] later.
     ///
     /// # Errors
     ///
@@ -914,6 +1028,17 @@ impl<K: Key + ?Sized, V> LruCache<K, V> {
         self.lock().core.reserve(entries)
     }
 
+    /// Gives back the memory of the tables if there is no value, as after [`prune`](Self::prune) or
+    /// [`clear`](Self::clear) if no handle is left, and returns whether it did. Tables have room
+    /// for as many values as there ever were at once, or as were reserved, and otherwise keep it.
+    ///
+    /// # Errors
+    ///
+    /// [`Refusal::Memory`] if there is no memory for the empty tables. Nothing has changed then.
+    pub fn shrink_to_fit(&self) -> Result<bool, Refusal> {
+        self.lock().core.shrink(self.seed)
+    }
+
     /// Sets the capacity. Idle values that exceed it are evicted at once.
     pub fn set_capacity(&self, capacity: u64) {
         let mut evicted = self.evicted();
@@ -1104,6 +1229,53 @@ impl<'a, K: Key + ?Sized, V> Maker<'a, K, V> {
         let handle = this.cache.handle(this.pin, value);
         this.cache.wake(shared, sleepers);
         handle
+    }
+
+    /// Makes `value` the value, as [`ready`](Self::ready) does, with this charge in place of that
+    /// with which the making was begun. Idle values that exceed the capacity then are evicted.
+    ///
+    /// # Errors
+    ///
+    /// [`Refusal::ZeroCharge`] if `charge` is 0. [`Refusal::Overflow`] if the total of all charges
+    /// would exceed `u64::MAX`. [`Refusal::Full`] if the limit is strict and there is no room for
+    /// the charge beside the other pinned values. The making has failed then, and the value is
+    /// dropped; nothing is evicted.
+    ///
+    /// # Examples
+    ///
+    /// ```
+    /// use concurrent_lru_proved::Begun;
+    /// use concurrent_lru_proved::unsharded::LruCache;
+    ///
+    /// # fn main() -> Result<(), concurrent_lru_proved::Refusal> {
+    /// let cache = LruCache::<u64, Vec<u8>>::new(1000)?;
+    /// if let Begun::Make(maker) = cache.begin(&7, 1)? {
+    ///     let bytes = vec![0; 100];
+    ///     let charge = bytes.len() as u64;
+    ///     maker.ready_with(bytes, charge)?;
+    /// }
+    /// assert_eq!(cache.total_charge(), 100);
+    /// # Ok(())
+    /// # }
+    /// ```
+    pub fn ready_with(self, value: V, charge: u64) -> Result<CacheHandle<'a, K, V>, Refusal> {
+        let this = ManuallyDrop::new(self);
+        let value = Box::new(value);
+        let time = this.time();
+        let mut evicted = this.cache.evicted();
+        let mut shared = this.cache.lock();
+        let (made, sleepers) = shared.ready_with(this.pin, value, charge, &mut evicted);
+        match made {
+            Ok(_) => shared.loads.made += 1,
+            Err(_) => shared.loads.failed += 1,
+        }
+        shared.loads.time += time;
+        let made = made.map(|value| this.cache.handle(this.pin, value));
+        this.cache.wake(shared, sleepers);
+        // As in `insert`.
+        let handle = made.map_err(|(refusal, _value)| refusal)?;
+        drop(evicted);
+        Ok(handle)
     }
 }
 

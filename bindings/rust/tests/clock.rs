@@ -128,6 +128,8 @@ fn keys_are_what_is_written_as_words() -> Result<(), Refusal> {
 fn capacities_are_shared_out_and_rounded_up() -> Result<(), Refusal> {
     let shards = |count| NonZeroUsize::new(count).unwrap();
     assert_eq!(Cache::<u64, u64>::new(1000)?.capacity(), 16 * 63);
+    let three = Cache::<u64, u64>::with_typical_charge(1001, 8)?;
+    assert_eq!(three.capacity(), 3 * 334);
     let cache = Cache::<u64, u64>::with_shards(10, shards(3))?;
     assert_eq!(cache.capacity(), 12);
     cache.set_capacity(u64::MAX);
@@ -203,13 +205,17 @@ fn idle_values_leave_for_new_ones_and_pinned_values_stay() -> Result<(), Refusal
     }
     assert_eq!((cache.len(), counter.dropped()), (3, 7));
     assert_eq!((pinned.1, cache.pinned_charge()), (0, 1));
-    // Values that are pinned may take the total above the capacity, until the next one comes.
+    // Values that are pinned may take the total above the capacity. Then those that lose their last
+    // handle leave, until it is down.
     let handles: Result<Vec<_>, _> = (10..15)
         .map(|key| cache.insert(&key, 1, counter.make(key)))
         .collect();
     assert_eq!((cache.len(), cache.pinned_charge()), (6, 6));
-    drop(handles?);
-    assert_eq!((cache.len(), cache.pinned_charge()), (6, 1));
+    let handles = handles?;
+    let clone = handles[0].try_clone()?;
+    drop(handles);
+    assert_eq!((clone.1, cache.len(), cache.pinned_charge()), (10, 3, 2));
+    drop(clone);
     cache.insert(&15, 1, counter.make(15))?;
     assert_eq!(cache.total_charge(), 3);
     cache.set_capacity(0);
@@ -230,6 +236,54 @@ fn a_value_that_is_used_stays_longer() -> Result<(), Refusal> {
             cache.get(&7)?;
         }
     }
+    Ok(())
+}
+
+#[test]
+fn a_release_and_an_advice_evict() -> Result<(), Refusal> {
+    let cache = Arc::new(one_shard(10)?);
+    let counter = Counter::default();
+    let first = cache.insert(&1, 1, counter.make(1))?;
+    let second = first.try_clone()?;
+    cache.advice_evict(&1)?;
+    second.release_and_evict();
+    assert_eq!(
+        (first.1, cache.contains(&1)?, counter.dropped()),
+        (1, true, 0)
+    );
+    first.release_and_evict();
+    assert_eq!(
+        (cache.contains(&1)?, cache.len(), counter.dropped()),
+        (false, 0, 1)
+    );
+
+    cache.insert(&2, 1, counter.make(2))?;
+    cache.advice_evict(&1)?;
+    assert!(cache.contains(&2)?);
+    cache.advice_evict(&2)?;
+    assert_eq!((cache.contains(&2)?, counter.dropped()), (false, 2));
+
+    // A value that its key does not find, and one that is being made.
+    let old = cache.insert(&3, 1, counter.make(3))?;
+    let new = cache.insert(&3, 1, counter.make(4))?;
+    old.release_and_evict();
+    assert_eq!((new.1, cache.len(), counter.dropped()), (4, 1, 3));
+    let Begun::Make(maker) = cache.begin(&5, 1)? else {
+        panic!("nobody has made it");
+    };
+    cache.advice_evict(&5)?;
+    drop(maker.ready(counter.make(5))?);
+    assert!(cache.contains(&5)?);
+
+    let owned = cache.get_owned(&5)?.expect("it was made");
+    let clone = owned.try_clone()?;
+    owned.release_and_evict();
+    assert_eq!((clone.1, counter.dropped()), (5, 3));
+    drop(new);
+    let weak = Arc::downgrade(&cache);
+    drop(cache);
+    clone.release_and_evict();
+    assert_eq!((weak.strong_count(), counter.dropped()), (0, 5));
     Ok(())
 }
 

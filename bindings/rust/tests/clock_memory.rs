@@ -123,3 +123,39 @@ fn an_insert_without_memory_changes_nothing() -> Result<(), Refusal> {
     }
     Ok(())
 }
+
+#[test]
+fn a_making_without_memory_fails_and_can_be_repeated() -> Result<(), Refusal> {
+    for request in 1..=3 {
+        let cache = Cache::<u64, u64>::with_seed(1000, NonZeroUsize::MIN, 0)?;
+        drop(cache.get(&0)?); // this makes the readers
+        let (mut refused_begins, mut refused_values) = (0, 0);
+        for key in 0..200 {
+            let (begun, was_refused) = with_refused(request, || cache.begin(&key, 1));
+            let begun = match begun {
+                Err(refusal) => {
+                    assert_eq!((refusal, was_refused), (Refusal::Memory, true));
+                    refused_begins += 1;
+                    cache.begin(&key, 1)?
+                }
+                Ok(begun) => begun,
+            };
+            let Begun::Make(maker) = begun else {
+                panic!("it is not there");
+            };
+            // The first request is that for the value itself.
+            let (stored, was_refused) = with_refused(1 + request, || maker.ready(key));
+            if let Err(refusal) = stored {
+                assert_eq!((refusal, was_refused), (Refusal::Memory, true));
+                refused_values += 1;
+                assert_eq!(cache.stats().load_failures, refused_values);
+                assert!(cache.get(&key)?.is_none());
+                drop(cache.get_or_init(&key, 1, |key| *key)?);
+            }
+            assert_eq!(cache.get(&key)?.as_deref(), Some(&key));
+        }
+        assert!(request > 1 || refused_begins > 0 && refused_values > 0);
+        assert_eq!((cache.len(), cache.total_charge()), (200, 200));
+    }
+    Ok(())
+}

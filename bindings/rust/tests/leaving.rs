@@ -202,6 +202,36 @@ macro_rules! tests {
             assert!(cache.contains(&7)?);
             Ok(())
         }
+
+        #[test]
+        fn charges_are_those_told_last_and_refusals_tell_nothing() -> Result<(), Refusal> {
+            let (cache, left) = heard(10)?;
+            let Begun::Make(maker) = cache.begin(&1, 2)? else {
+                panic!("it is not there");
+            };
+            drop(maker.ready_with(10, 3)?);
+            drop(cache.get_or_init_with(&2, |_| (20, 4)));
+            cache.invalidate(&1)?;
+            cache.invalidate(&2)?;
+            let expected = [
+                (1, 10, 3, Reason::Invalidated),
+                (2, 20, 4, Reason::Invalidated),
+            ];
+            assert_eq!(told(&left), expected);
+            let _held = cache.insert(&2, 1, 20)?;
+            let refused = [(0, Refusal::ZeroCharge), (u64::MAX, Refusal::Overflow)];
+            for (charge, refusal) in refused {
+                let made = cache.get_or_init_with(&3, |_| (30, charge));
+                assert_eq!(made.err(), Some(refusal));
+                assert_eq!(cache.insert(&3, charge, 30).err(), Some(refusal));
+            }
+            assert!(told(&left).is_empty());
+            // What leaves for a charge that is told.
+            cache.insert(&5, 8, 50)?;
+            cache.get_or_init_with(&6, |_| (60, 6))?;
+            assert_eq!(told(&left), [(5, 50, 8, Reason::Evicted)]);
+            Ok(())
+        }
     };
 }
 
@@ -281,41 +311,27 @@ mod clock {
     tests!();
 
     #[test]
-    fn the_charge_is_the_one_told_with_the_value_and_refusals_tell_nothing() -> Result<(), Refusal>
-    {
-        let (cache, left) = heard(10)?;
-        let Begun::Make(maker) = cache.begin(&1, 2)? else {
-            panic!("it is not there");
-        };
-        drop(maker.ready_with(10, 3)?);
-        drop(cache.get_or_init_with(&2, |_| (20, 4)));
-        cache.invalidate(&1)?;
-        cache.invalidate(&2)?;
-        let expected = [
-            (1, 10, 3, Reason::Invalidated),
-            (2, 20, 4, Reason::Invalidated),
-        ];
-        assert_eq!(told(&left), expected);
-        let _held = cache.insert(&2, 1, 20)?;
-        let refused = [(0, Refusal::ZeroCharge), (u64::MAX, Refusal::Overflow)];
-        for (charge, refusal) in refused {
-            let made = cache.get_or_init_with(&3, |_| (30, charge));
-            assert_eq!(made.err(), Some(refusal));
-            assert_eq!(cache.insert(&3, charge, 30).err(), Some(refusal));
-        }
-        assert!(told(&left).is_empty());
-        Ok(())
-    }
-
-    #[test]
     fn an_old_value_that_is_evicted_for_the_new_one_is_replaced() -> Result<(), Refusal> {
         let (cache, left) = heard(3)?;
         let _held = cache.insert(&1, 2, 10)?;
         cache.insert(&2, 1, 20)?;
         // All others are pinned.
-        cache.insert(&2, 2, 21)?;
+        let new = cache.insert(&2, 2, 21)?;
         assert_eq!(told(&left), [(2, 20, 1, Reason::Replaced)]);
         assert_eq!(cache.total_charge(), 4);
+        drop(new);
+        assert_eq!(told(&left), [(2, 21, 2, Reason::Evicted)]);
+        Ok(())
+    }
+
+    #[test]
+    fn a_release_and_an_advice_evict() -> Result<(), Refusal> {
+        let (cache, left) = heard(3)?;
+        cache.insert(&1, 1, 10)?;
+        cache.advice_evict(&1)?;
+        assert_eq!(told(&left), [(1, 10, 1, Reason::Evicted)]);
+        cache.insert(&2, 1, 20)?.release_and_evict();
+        assert_eq!(told(&left), [(2, 20, 1, Reason::Evicted)]);
         Ok(())
     }
 }

@@ -1,7 +1,8 @@
 //! Tests of `begin` and `try_begin`, and of what `stats` tells of makings.
 
-use std::sync::Barrier;
+use std::num::NonZeroUsize;
 use std::sync::atomic::{AtomicBool, AtomicU64, Ordering};
+use std::sync::{Arc, Barrier, Weak};
 use std::thread;
 use std::time::Duration;
 
@@ -132,6 +133,183 @@ fn what_is_being_made_can_be_cleared_between_two_makers() -> Result<(), Refusal>
     Ok(())
 }
 
+/// Makes idle values of these keys and of charge 2.
+fn fill(cache: &Cache, keys: impl Iterator<Item = u64>) -> Result<(), Refusal> {
+    for key in keys {
+        cache.insert(&key, 2, key)?;
+    }
+    Ok(())
+}
+
+#[test]
+fn the_charge_may_be_told_when_the_value_is_ready() -> Result<(), Refusal> {
+    let cache = Cache::new(10)?;
+    fill(&cache, 0..4)?;
+    let making = maker(&cache);
+    assert_eq!((cache.pinned_charge(), cache.total_charge()), (1, 9));
+    let made = making.ready_with(70, 5)?;
+    assert_eq!((cache.pinned_charge(), cache.total_charge()), (5, 9));
+    assert_eq!((*made, *hit(&cache)), (70, 70));
+    // Those that were released longest ago have left, and no more.
+    assert!(!cache.contains(&0)? && !cache.contains(&1)? && cache.contains(&2)?);
+    drop(made);
+    // A smaller one, and one above the capacity, which leaves with its handle.
+    if let Begun::Make(making) = cache.begin(&8, 3)? {
+        assert_eq!(*making.ready_with(80, 1)?, 80);
+    }
+    assert_eq!(cache.total_charge(), 8);
+    if let Begun::Make(making) = cache.begin(&9, 1)? {
+        let made = making.ready_with(90, 11)?;
+        assert_eq!((*made, cache.len(), cache.total_charge()), (90, 1, 11));
+    }
+    assert!(cache.is_empty());
+    let stats = cache.stats();
+    assert_eq!(
+        (stats.loads, stats.load_failures, stats.evictions),
+        (3, 0, 7)
+    );
+    Ok(())
+}
+
+#[test]
+fn a_charge_that_is_refused_is_that_of_no_value() -> Result<(), Refusal> {
+    let cache = Cache::new(10)?;
+    let pinned = cache.insert(&1, 4, 10)?;
+    fill(&cache, 2..4)?;
+    for (charge, is_strict, refusal) in [
+        (0, false, Refusal::ZeroCharge),
+        (u64::MAX - 3, false, Refusal::Overflow),
+        (7, true, Refusal::Full),
+    ] {
+        cache.set_strict_limit(is_strict);
+        let refused = maker(&cache).ready_with(70, charge);
+        assert_eq!(refused.err(), Some(refusal));
+        // Nothing else has left.
+        assert_eq!((cache.len(), cache.total_charge()), (3, 8));
+        assert!(!cache.contains(&7)?);
+    }
+    assert_eq!(*maker(&cache).ready_with(70, 6)?, 70);
+    assert_eq!((cache.len(), cache.total_charge()), (2, 10));
+    let stats = cache.stats();
+    assert_eq!(
+        (stats.loads, stats.load_failures, stats.removals),
+        (1, 3, 3)
+    );
+    drop(pinned);
+    Ok(())
+}
+
+/// A value that looks at its cache when it is dropped, which waits for ever if the lock is held.
+struct Looks(Weak<LruCache<u64, Looks>>, Arc<AtomicU64>);
+
+impl Drop for Looks {
+    fn drop(&mut self) {
+        self.0.upgrade().map(|cache| cache.len());
+        self.1.fetch_add(1, Ordering::SeqCst);
+    }
+}
+
+#[test]
+fn those_that_wait_hear_of_a_charge() -> Result<(), Refusal> {
+    for charge in [5, 0, u64::MAX] {
+        let dropped = Arc::new(AtomicU64::new(0));
+        let cache = Arc::new(LruCache::<u64, Looks>::new(10)?);
+        let looks = || Looks(Arc::downgrade(&cache), Arc::clone(&dropped));
+        let pinned = cache.insert(&1, 2, looks())?;
+        cache.insert(&2, 6, looks())?;
+        let Begun::Make(first) = cache.begin(&7, 1)? else {
+            panic!("it is not there");
+        };
+        // One that tried is gone.
+        assert!(cache.try_begin(&7, 1)?.is_none());
+        thread::scope(|scope| {
+            let waiting = scope.spawn(|| {
+                let mut has_made = false;
+                let made = cache.get_or_init(&7, 1, |_| {
+                    has_made = true;
+                    looks()
+                });
+                made.map(|_| has_made)
+            });
+            while cache.stats().waits < 2 {
+                thread::sleep(Duration::from_millis(1));
+            }
+            let made = first.ready_with(looks(), charge);
+            assert_eq!(made.is_ok(), charge == 5);
+            // Either the value is dropped that is refused, or the one that left for it.
+            assert_eq!(dropped.load(Ordering::SeqCst), 1);
+            assert_eq!(cache.contains(&2)?, charge != 5);
+            drop(made);
+            assert_eq!(waiting.join().unwrap()?, charge != 5);
+            Ok::<_, Refusal>(())
+        })?;
+        assert_eq!((cache.pinned_charge(), cache.contains(&7)?), (2, true));
+        let stats = cache.stats();
+        assert_eq!(
+            (stats.loads, stats.load_failures),
+            (1, (charge != 5).into())
+        );
+        drop(pinned);
+    }
+    Ok(())
+}
+
+#[test]
+fn a_loader_may_tell_the_charge_with_the_value() -> Result<(), GetError<()>> {
+    let cache = Cache::new(10)?;
+    for key in 1..10 {
+        let made = cache.get_or_init_with(&key, |key| (10 * key, *key))?;
+        assert_eq!((*made, cache.pinned_charge()), (10 * key, key));
+        assert!(cache.total_charge() <= 10);
+    }
+    // No loader runs for a value that is there, which keeps its charge.
+    let total = cache.total_charge();
+    let found = cache.get_or_init_with(&9, |_| unreachable!("it is there"))?;
+    let again = cache.get_or_try_init_with(&9, |_| Err(()))?;
+    assert_eq!((*found, *again, cache.total_charge()), (90, 90, total));
+    drop((found, again));
+    let failed = cache.get_or_try_init_with(&1, |_| Err(()));
+    assert_eq!(failed.err(), Some(GetError::Init(())));
+    assert!(!cache.contains(&1)?);
+    // While it is made, it counts for 1.
+    let made = cache.get_or_try_init_with(&1, |_| Ok((cache.pinned_charge(), 2)))?;
+    assert_eq!((*made, cache.pinned_charge()), (1, 2));
+    let refused = cache.get_or_init_with(&2, |_| (2, u64::MAX));
+    assert_eq!(refused.err(), Some(Refusal::Overflow));
+    // Under a strict limit, it may be refused before it is made, or afterwards.
+    cache.set_strict_limit(true);
+    let refused = cache.get_or_try_init_with(&2, |_| Ok::<_, ()>((2, 9)));
+    assert_eq!(refused.err(), Some(GetError::Refused(Refusal::Full)));
+    let all = cache.get_or_init_with(&2, |_| (2, 8))?;
+    let refused = cache.get_or_init_with(&3, |_| unreachable!("there is no room"));
+    assert_eq!(refused.err(), Some(Refusal::Full));
+    assert_eq!((*all, cache.len(), cache.total_charge()), (2, 2, 10));
+    Ok(())
+}
+
+#[test]
+fn shards_take_charges_with_values_too() -> Result<(), GetError<()>> {
+    let cache = sharded::LruCache::<u64, u64>::with_shards(10, NonZeroUsize::MIN)?;
+    for key in 0..5 {
+        cache.insert(&key, 2, key)?;
+    }
+    let made = cache.get_or_init_with(&7, |key| (10 * key, 3))?;
+    let again = cache.get_or_try_init_with(&8, |key| Ok((10 * key, 4)))?;
+    assert_eq!((*made, *again, cache.pinned_charge()), (70, 80, 7));
+    assert_eq!((cache.len(), cache.contains(&4)?), (3, true));
+    let failed = cache.get_or_try_init_with(&9, |_| Err(()));
+    assert_eq!(failed.err(), Some(GetError::Init(())));
+    let sharded::Begun::Make(maker) = cache.begin(&9, 1)? else {
+        panic!("it is not there");
+    };
+    assert_eq!(maker.ready_with(90, 0).err(), Some(Refusal::ZeroCharge));
+    if let sharded::Begun::Make(maker) = cache.begin(&9, 1)? {
+        assert_eq!(*maker.ready_with(90, 3)?, 90);
+    }
+    assert_eq!((cache.total_charge(), cache.contains(&9)?), (10, true));
+    Ok(())
+}
+
 #[test]
 fn shards_have_makers_too() -> Result<(), Refusal> {
     let cache = sharded::LruCache::<u64, u64>::new(1000)?;
@@ -181,6 +359,16 @@ fn stats_tell_how_long_makings_took() -> Result<(), Refusal> {
     cache.get(&1)?;
     cache.insert(&3, 1, 3)?;
     assert_eq!(cache.stats().load_time, failed.load_time);
+    // A charge that is told with the value may be refused.
+    for charge in [1, 0] {
+        let before = cache.stats().load_time;
+        let made = cache.get_or_init_with(&(4 + charge), |_| {
+            thread::sleep(pause);
+            (4, charge)
+        });
+        assert_eq!(made.is_ok(), charge == 1);
+        assert!(cache.stats().load_time >= before + pause);
+    }
     let both = failed.saturating_add(made);
     assert_eq!((both.loads, both.load_failures), (2, 1));
     assert_eq!(both.load_time, failed.load_time + made.load_time);

@@ -73,8 +73,13 @@ fn a_small_cache_has_few_shards() -> Result<(), Refusal> {
     assert_eq!(kept(LruCache::new(30)?)?, 10);
     assert_eq!(kept(LruCache::with_shards(30, sixteen)?)?, 0);
     assert_eq!(kept(LruCache::with_shards(30, NonZeroUsize::MIN)?)?, 10);
-    // 15 shards of 34.
+    // 15 shards of 34; with charges of about 16 one of 500, and with charges of about 8 three of
+    // 334.
     assert_eq!(LruCache::<u64, u64>::new(500)?.capacity(), 510);
+    let typical = |charge| LruCache::with_typical_charge(500, charge);
+    assert_eq!((typical(16)?.capacity(), kept(typical(16)?)?), (500, 20));
+    let three = LruCache::<u64, u64>::with_typical_charge(1001, 8)?;
+    assert_eq!(three.capacity(), 1002);
     Ok(())
 }
 

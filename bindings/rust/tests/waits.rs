@@ -1,12 +1,17 @@
 //! Tests that callers who wait for a value are woken, and only they.
 
+mod sleeping;
+
+use std::num::NonZeroUsize;
+use std::sync::Barrier;
 use std::sync::atomic::{AtomicUsize, Ordering};
-use std::sync::{Barrier, Mutex};
+use std::thread;
 use std::time::Duration;
-use std::{fs, thread};
 
 use concurrent_lru_proved::unsharded::LruCache;
-use concurrent_lru_proved::{GetError, Refusal};
+use concurrent_lru_proved::{GetError, Refusal, clock};
+
+use sleeping::Sleepers;
 
 /// Waits until this many callers wait. Who is counted keeps the lock until it waits, so the count
 /// is seen only then.
@@ -93,28 +98,12 @@ fn all_that_wait_are_woken_however_the_making_ends() -> Result<(), Refusal> {
     Ok(())
 }
 
-/// How often a thread has gone to sleep, once it sleeps. `folder` is where Linux tells about it.
-fn sleeps_of(folder: &str) -> u64 {
-    loop {
-        let status = fs::read_to_string(format!("/proc/{folder}/status")).unwrap();
-        let told = |name| status.lines().find_map(|line| line.strip_prefix(name));
-        if told("State:").is_some_and(|state| state.trim().starts_with('S')) {
-            return told("voluntary_ctxt_switches:")
-                .unwrap()
-                .trim()
-                .parse()
-                .unwrap();
-        }
-        thread::sleep(Duration::from_millis(1));
-    }
-}
-
 #[test]
 fn a_making_wakes_only_those_that_wait_for_it() -> Result<(), Refusal> {
     const WAITING: usize = 20;
     let cache = LruCache::<u64, u64>::new(10)?;
     let making = Barrier::new(2);
-    let folders = Mutex::new(Vec::new());
+    let sleepers = Sleepers::default();
     thread::scope(|scope| {
         scope.spawn(|| {
             cache.get_or_init(&0, 1, |_| {
@@ -126,24 +115,56 @@ fn a_making_wakes_only_those_that_wait_for_it() -> Result<(), Refusal> {
         making.wait();
         let waiting = [(); WAITING].map(|()| {
             scope.spawn(|| {
-                let folder = fs::read_link("/proc/thread-self").unwrap();
-                let folder = folder.into_os_string().into_string().unwrap();
-                folders.lock().unwrap().push(folder);
+                sleepers.add_this_thread();
                 cache.get_or_init(&0, 1, |_| 8).map(|handle| *handle)
             })
         });
         wait_for_waits(&cache, WAITING as u64);
-        let folders = folders.lock().unwrap();
-        let sleeps = || folders.iter().map(|folder| sleeps_of(folder)).sum::<u64>();
-        let before = sleeps();
+        let before = sleepers.sleeps();
         for key in 1..=200 {
             cache.get_or_init(&key, 1, |_| 1)?;
             let failed = cache.get_or_try_init(&(1000 + key), 1, |_| Err::<u64, _>("no value"));
             assert_eq!(failed.err(), Some(GetError::Init("no value")));
         }
         // Nobody has woken: who wakes goes to sleep once more.
-        let woken = sleeps() - before;
+        let woken = sleepers.sleeps() - before;
         making.wait();
+        for thread in waiting {
+            assert_eq!(thread.join().unwrap(), Ok(7));
+        }
+        assert_eq!(woken, 0);
+        Ok(())
+    })
+}
+
+#[test]
+fn a_making_of_a_clock_wakes_only_those_that_wait_for_it() -> Result<(), Refusal> {
+    const WAITING: usize = 10;
+    let cache = clock::Cache::<u64, u64>::with_shards(10, NonZeroUsize::MIN)?;
+    let clock::Begun::Make(maker) = cache.begin(&0, 1)? else {
+        panic!("the cache is empty");
+    };
+    let sleepers = Sleepers::default();
+    thread::scope(|scope| {
+        let waiting = [(); WAITING].map(|()| {
+            scope.spawn(|| {
+                sleepers.add_this_thread();
+                cache.get_or_init(&0, 1, |_| 8).map(|handle| *handle)
+            })
+        });
+        while sleepers.count() < WAITING {
+            thread::sleep(Duration::from_millis(1));
+        }
+        // Nothing counts who waits, so they get time to begin.
+        thread::sleep(Duration::from_millis(200));
+        let before = sleepers.sleeps();
+        for key in 1..=200 {
+            cache.get_or_init(&key, 1, |_| 1)?;
+            let failed = cache.get_or_try_init(&(1000 + key), 1, |_| Err::<u64, _>("no value"));
+            assert_eq!(failed.err(), Some(GetError::Init("no value")));
+        }
+        let woken = sleepers.sleeps() - before;
+        maker.ready(7)?;
         for thread in waiting {
             assert_eq!(thread.join().unwrap(), Ok(7));
         }

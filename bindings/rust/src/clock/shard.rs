@@ -326,16 +326,31 @@ impl<V> State<V> {
     pub(super) fn unpin(&mut self, place: u32, left: &mut Left<'_, V>) {
         // SAFETY: this state has the only copy of the handle.
         let code = unsafe { ffi::lru_reader_unpin(&mut self.reader, place) };
-        if code == ffi::LAST {
-            self.collect(place, left);
+        self.finish_unpin(code, place, left);
+    }
+
+    /// Takes out what has to leave after a pin was given back, with this answer.
+    pub(super) fn finish_unpin(&mut self, code: u32, place: u32, left: &mut Left<'_, V>) {
+        match code {
+            ffi::LAST => {
+                let mut gone = ffi::Left::default();
+                let clock = &mut self.clock;
+                // SAFETY: this state has the only copy of the handle.
+                if unsafe { ffi::lru_clock_collect(clock, place, &mut gone) } == ffi::GONE {
+                    left.take(gone);
+                }
+            }
+            ffi::ABOVE => self.make_room(0, left),
+            _ => {}
         }
     }
 
-    /// Takes out the entry at a place that was invalidated and whose last pin was given back.
-    pub(super) fn collect(&mut self, place: u32, left: &mut Left<'_, V>) {
+    /// Gives a pin back, and evicts the entry if that was its last pin.
+    pub(super) fn release_and_evict(&mut self, place: u32, left: &mut Left<'_, V>) {
         let mut gone = ffi::Left::default();
+        let clock = &mut self.clock;
         // SAFETY: this state has the only copy of the handle.
-        if unsafe { ffi::lru_clock_collect(&mut self.clock, place, &mut gone) } == ffi::GONE {
+        if unsafe { ffi::lru_clock_release_and_evict(clock, place, &mut gone) } == ffi::GONE {
             left.take(gone);
         }
     }
@@ -430,6 +445,7 @@ impl<V> State<V> {
             }
         }
         self.loads.time += time;
+        self.make_room(0, left); // as after an insert
         (stored, ended)
     }
 
@@ -456,7 +472,7 @@ impl<V> State<V> {
         node: Box<Node<V>>,
         left: &mut Left<'_, V>,
     ) -> (Stored<V>, Option<Making>) {
-        let old = self.listed(route, left);
+        let old = self.listed(route);
         let [first, second] = route.key;
         let is_strict = self.is_strict;
         let stored = self.store(node, |clock, charge, word| {
@@ -477,6 +493,7 @@ impl<V> State<V> {
             }
         });
         if stored.is_err() {
+            self.make_room(0, left);
             return (stored, None);
         }
         if let Some(old) = old {
@@ -487,6 +504,8 @@ impl<V> State<V> {
             }
         }
         self.inserted += 1;
+        // Whoever gave back a pin in between was not told that the total is above the capacity.
+        self.make_room(0, left);
         (stored, self.detach_making(route, Reason::Replaced))
     }
 
@@ -514,7 +533,7 @@ impl<V> State<V> {
         reason: Reason,
         left: &mut Left<'_, V>,
     ) -> Option<Making> {
-        if let Some(node) = self.listed(route, left) {
+        if let Some(node) = self.listed(route) {
             // SAFETY: the entry has not left, so its node stays while the lock is held.
             unsafe { node.as_ref() }.detach(reason);
         }
@@ -529,10 +548,12 @@ impl<V> State<V> {
         self.detach_making(route, reason)
     }
 
-    /// The node of a key's value, unless that cannot be pinned once more.
-    fn listed(&mut self, route: Route, left: &mut Left<'_, V>) -> Option<NonNull<Node<V>>> {
+    /// The node of a key's value, unless that cannot be pinned once more. Evicts nothing, even if
+    /// the total is above the capacity: the caller takes the entry out, or makes room.
+    fn listed(&mut self, route: Route) -> Option<NonNull<Node<V>>> {
         let pin = self.find(route).ok().flatten()?;
-        self.unpin(pin.place, left);
+        // SAFETY: this state has the only copy of the handle.
+        unsafe { ffi::lru_reader_unpin(&mut self.reader, pin.place) };
         Some(pin.node)
     }
 
