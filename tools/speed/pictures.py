@@ -1,16 +1,19 @@
 #!/usr/bin/env python3
 """usage: pictures.py FOLDER MEASURED..
-Draws pictures of measured lines, `SYSTEM WORKLOAD ENTRIES THREADS NANOSECONDS` each, which stand in
-one or more files; of several lines of one kind the least counts. In FOLDER:
+Draws pictures of what was measured: of lines `SYSTEM WORKLOAD ENTRIES THREADS NANOSECONDS` in these
+files, of which the least of each kind counts, and of what hit_ratio wrote in a file *.csv. In
+FOLDER:
 speed-threads.svg  the time of a call of read_mostly by the number of threads
 speed-blocks.svg   the same, of caches with the interface of RocksDB's
 speed-entries.svg  the time of a hit and of a miss by the number of entries, of one thread
 speed-hits.svg     the time of a call of read_mostly by the hit ratio, in a chart for each capacity:
                    of four threads at the largest, and of one thread at the others
+speed-orders.svg   the hit ratio of each order by the capacity, in a chart for each of two traces
 What was measured at one number of threads or of entries alone has no picture, and speed-threads.svg
 shows the largest capacity. Hit ratios are those of lines `# hits SYSTEM WORKLOAD ENTRIES THREADS
 RATIO`; of several of one kind the last counts."""
 import collections
+import csv
 import math
 import sys
 from html import escape
@@ -50,6 +53,8 @@ COLOURS = {
     "caffeine": ("#8b1a1a", "#f28b82"),
     "block-clock": ("#0a7a4b", "#5fd6a3"),
     "block-exact": ("#0b62c4", "#6cb6ff"),
+    "exact": ("#0b62c4", "#6cb6ff"),
+    "clock": ("#0a7a4b", "#5fd6a3"),
 }
 
 # What the picture of caches with RocksDB's interface shows.
@@ -88,14 +93,55 @@ CALLED = {
     "block-exact": "NewRocksDBBlockCache",
     "hyper": "HyperClock",
     "reserved": "room reserved",
+    "exact": "exact order",
 }
+
+# The traces of speed-orders.svg: on one the clock hits more often, on the other also less often.
+ORDERED = ("LevelDB", "RocksDB")
 
 
 class Point(NamedTuple):
-    """A measured time: across is the number of threads or of entries, or the hit ratio."""
+    """What was measured, mostly nanoseconds: across is the number of threads or of entries, the hit
+    ratio, or the capacity."""
 
     across: float
-    ns: float
+    value: float
+
+
+class Times(NamedTuple):
+    """A logarithmic scale of nanoseconds."""
+
+    low: float
+    high: float
+
+    def part(self, ns):
+        """How far up a time is, from 0 to 1."""
+        return math.log(ns / self.low) / math.log(self.high / self.low)
+
+    @property
+    def ticks(self):
+        """Round numbers on the scale, with their text."""
+        factors = (1, 2, 5) if self.high / self.low > 4 else (1, 2, 3, 4, 5, 6, 8)
+        steps = [factor * 10**power for power in range(7) for factor in factors]
+        return {step: f"{step:,}" for step in steps if self.low <= step <= self.high}
+
+    @staticmethod
+    def text(ns):
+        return f"{ns:,.0f}"
+
+
+class Ratios:
+    """The linear scale of hit ratios, from 0 to 1."""
+
+    ticks = {fifths / 5: f"{fifths / 5:.1f}" for fifths in range(6)}
+
+    @staticmethod
+    def part(ratio):
+        return ratio
+
+    @staticmethod
+    def text(ratio):
+        return f"{ratio:.3f}"
 
 
 class Chart(NamedTuple):
@@ -108,12 +154,25 @@ class Chart(NamedTuple):
     common: str
     # What the axis shows, if it is not where something was measured.
     shown: tuple = ()
+    # Whether the values are hit ratios.
+    of_ratios: bool = False
+
+    @property
+    def points(self):
+        return [point for line in self.lines.values() for point in line]
 
     @property
     def marks(self):
         """What the axis shows."""
-        measured = {point.across for line in self.lines.values() for point in line}
-        return list(self.shown) or sorted(measured)
+        return list(self.shown) or sorted({point.across for point in self.points})
+
+    @property
+    def scale(self):
+        """A scale that has all points."""
+        if self.of_ratios:
+            return Ratios()
+        times = [point.value for point in self.points]
+        return Times(min(times) / 1.2, max(times) * 1.2)
 
 
 class Frame(NamedTuple):
@@ -121,8 +180,7 @@ class Frame(NamedTuple):
 
     top: float
     marks: list
-    low: float
-    high: float
+    scale: Times | Ratios
 
     @property
     def bottom(self):
@@ -132,23 +190,28 @@ class Frame(NamedTuple):
         part = math.log(across / self.marks[0]) / math.log(self.marks[-1] / self.marks[0])
         return LEFT + part * (WIDTH - LEFT - RIGHT)
 
-    def y(self, ns):
-        part = math.log(ns / self.low) / math.log(self.high / self.low)
-        return self.bottom - part * (self.bottom - self.top)
+    def y(self, value):
+        return self.bottom - self.scale.part(value) * (self.bottom - self.top)
 
 
 def lines_in(paths):
     """The lines of these files, each as its words."""
     for path in paths:
-        for line in Path(path).read_text("utf-8").splitlines():
+        for line in path.read_text("utf-8").splitlines():
             yield line.split()
 
 
+def rows_in(paths):
+    """The rows of these files of CSV, each by the names of its columns."""
+    for path in paths:
+        yield from csv.DictReader(path.read_text("utf-8").splitlines())
+
+
 def lines_of(points):
-    """The points (system, across, nanoseconds) by system, each in order."""
+    """The points (system, across, value) by system, each in order."""
     lines = collections.defaultdict(list)
-    for system, across, ns in sorted(points):
-        lines[system].append(Point(across, ns))
+    for system, across, value in sorted(points):
+        lines[system].append(Point(across, value))
     return dict(lines)
 
 
@@ -220,6 +283,18 @@ def every_by_hits(least, ratios):
     return charts + [by_hits(least, ratios, capacity, 1) for capacity in others]
 
 
+def by_capacity(rows, trace):
+    """The chart of the hit ratios of a trace by capacities, from rows of the CSV of hit_ratio."""
+    points = [
+        (order, int(row["percent"]), float(row[order]))
+        for row in rows
+        for order in ("exact", "clock", "caffeine", "optimum")
+        if row["trace"] == trace and row[order]
+    ]
+    axis = "capacity, in percent of the keys, on a logarithmic scale"
+    return Chart(f"{trace} trace", axis, lines_of(points), "", of_ratios=True)
+
+
 def split(system):
     """A system's name without the ending of a variant, and that ending, empty if it has none."""
     name, variant = system, ""
@@ -265,20 +340,6 @@ def apart(wanted, top, bottom):
     return [max(top, min(start, last)) + number * STEP for number, start in enumerate(starts)]
 
 
-def ticks(low, high):
-    """Round numbers on a logarithmic axis."""
-    factors = (1, 2, 5) if high / low > 4 else (1, 2, 3, 4, 5, 6, 8)
-    steps = [factor * 10**power for power in range(7) for factor in factors]
-    return [step for step in steps if low <= step <= high]
-
-
-def frame_of(chart, top):
-    """A frame in which all points of a chart are."""
-    points = [point for line in chart.lines.values() for point in line]
-    times = [point.ns for point in points]
-    return Frame(top + ABOVE, chart.marks, min(times) / 1.2, max(times) * 1.2)
-
-
 def text(x, y, words, kind="plain"):
     return f'<text class="{kind}" x="{x:.1f}" y="{y:.1f}">{escape(words, quote=False)}</text>'
 
@@ -290,9 +351,9 @@ def level(y, kind):
 
 def axes(chart, frame):
     out = [text(LEFT, frame.top - ABOVE - 2, chart.title, kind="strong")]
-    for tick in ticks(frame.low, frame.high):
+    for tick, shown in frame.scale.ticks.items():
         y = frame.y(tick)
-        out += [level(y, "grid"), text(LEFT - 8, y + 4, f"{tick:,}", kind="right")]
+        out += [level(y, "grid"), text(LEFT - 8, y + 4, shown, kind="right")]
     out.append(level(frame.bottom, "axis"))
     for mark in frame.marks:
         shown = f"{mark:.2f}" if chart.shown else f"{mark:,}"
@@ -303,22 +364,22 @@ def axes(chart, frame):
 
 def drawn(system, line, frame, place, common):
     """A line with its points, and the label at its end, at this height."""
-    ends = [(frame.x(point.across), frame.y(point.ns)) for point in line]
+    ends = [(frame.x(point.across), frame.y(point.value)) for point in line]
     (x, y), beside = ends[-1], WIDTH - RIGHT + 26
     kind = system + (" dashed" if is_variant(system) else "")
     path = "M" + "L".join(f"{x:.1f} {y:.1f}" for x, y in ends)
     out = [f'<path class="line {kind}" d="{path}"/>']
     out += [f'<circle class="{system}" cx="{x:.1f}" cy="{y:.1f}" r="3"/>' for x, y in ends]
     out.append(f'<path class="leader {system}" d="M{x + 5:.1f} {y:.1f}L{beside - 5} {place:.1f}"/>')
-    words = f"{label(system, common)}: {line[-1].ns:,.0f}"
+    words = f"{label(system, common)}: {frame.scale.text(line[-1].value)}"
     return out + [text(beside, place + 4.5, words, kind=system)]
 
 
 def panel(chart, top):
     """The chart, this far down."""
-    frame = frame_of(chart, top)
-    lines = sorted(chart.lines.items(), key=lambda item: frame.y(item[1][-1].ns))
-    wanted = [frame.y(line[-1].ns) for _, line in lines]
+    frame = Frame(top + ABOVE, chart.marks, chart.scale)
+    lines = sorted(chart.lines.items(), key=lambda item: frame.y(item[1][-1].value))
+    wanted = [frame.y(line[-1].value) for _, line in lines]
     places = apart(wanted, frame.top, frame.bottom)
     out = axes(chart, frame)
     for (system, line), place in zip(lines, places):
@@ -338,6 +399,9 @@ def rules(systems, shade, paper, ink, grid):
 
 def picture(title, charts):
     """An SVG of one chart, or of some below each other."""
+    shown = "nanoseconds per call, on a logarithmic scale: lower is faster"
+    if charts[0].of_ratios:
+        shown = "the fraction of uses that hit: higher is better"
     systems = {system for chart in charts for system in chart.lines}
     height = HEAD + CHART * len(charts)
     tops = range(HEAD, height, CHART)
@@ -357,7 +421,7 @@ def picture(title, charts):
         "</style>",
         f'<rect class="paper" width="{WIDTH}" height="{height}"/>',
         text(LEFT, 26, title, kind="title"),
-        text(LEFT, 46, "nanoseconds per call, on a logarithmic scale: lower is faster"),
+        text(LEFT, 46, shown),
         *body,
         "</svg>",
     ]) + "\n"
@@ -366,7 +430,9 @@ def picture(title, charts):
 def main():
     if len(sys.argv) < 3:
         sys.exit(__doc__)
-    folder, lines = Path(sys.argv[1]), list(lines_in(sys.argv[2:]))
+    folder, files = Path(sys.argv[1]), [Path(name) for name in sys.argv[2:]]
+    lines = list(lines_in(file for file in files if file.suffix != ".csv"))
+    rows = list(rows_in(file for file in files if file.suffix == ".csv"))
     least, ratios = least_of(lines), ratios_of(lines)
     pictures = {
         "speed-threads.svg": ("Time of a call by threads", [by_threads(least)]),
@@ -378,6 +444,9 @@ def main():
             by_entries(least, "Miss that evicts an entry", {"miss_evict": ""}),
         ]),
         "speed-hits.svg": ("Time of a call and hit ratio", every_by_hits(least, ratios)),
+        "speed-orders.svg": (
+            "Hit ratio by capacity", [by_capacity(rows, trace) for trace in ORDERED]
+        ),
     }
     for name, (title, charts) in pictures.items():
         if charts and all(len(chart.marks) > 1 for chart in charts):

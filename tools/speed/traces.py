@@ -1,13 +1,17 @@
-"""Traces of keys: text that `lru_size` reads, with a line `KEY [CHARGE]` for each use, and drawn
-keys."""
+"""Traces of keys: text that `lru_size` reads, with a line `KEY [CHARGE]` for each use, also packed
+by `xz`, and drawn keys."""
 import bisect
 import itertools
+import lzma
 import sys
 
 
 def keys_of(path):
     """The key of each use. Ends the program with a message if the file is no such trace."""
-    lines = path.read_text(encoding="utf-8").splitlines()
+    text = path.read_bytes()
+    if path.suffix == ".xz":
+        text = lzma.decompress(text)
+    lines = text.decode("utf-8").splitlines()
     keys = [words[0] for words in map(str.split, lines) if words]
     if not keys or len(keys) < len(lines):
         sys.exit(f"{path}: a trace has a line KEY [CHARGE] for each use")
