@@ -1,29 +1,33 @@
-// Measures a hit with its release and a miss with an eviction, for this cache and for LevelDB's:
-// one thread, keys of 16 bytes, a std::mutex around the calls of each. Prints nanoseconds of
-// processor time per operation, the least of all rounds, and its ratio to LevelDB's.
+// Compares a hit with its release, and a miss with an eviction, with those of LevelDB's cache by
+// pairs of runs (pairs.hpp): one thread, keys of 16 bytes, and a std::mutex around the calls of
+// each cache.
 //
-//   cache_bench [ROUNDS [CALLS]]
+//   cache_bench [ROUNDS [CALLS]]     by default 9 rounds of 1,000,000 calls
 //
-// The caches take turns in each round, so that all meet the same load of the machine. A hit looks
-// up a key that is present and releases it. A miss looks up a key that is absent, makes its entry,
-// which evicts the oldest idle one, and releases it: Lookup, Insert and Release of a LevelDB cache;
-// begin, ready and release of this one.
-#include <algorithm>
+// A hit looks up a key that is present and releases it. A miss looks up a key that is absent, makes
+// its entry, which evicts another one, and releases it: Lookup, Insert and Release of a LevelDB
+// cache; begin, ready and release of this one.
+//
+// The systems are LevelDB's own cache (leveldb-sharded), the calls of lru.h with keys of two words
+// (c-words) and of bytes (c-bytes), lru::Cache (cpp-unsharded), lru::ShardedCache (cpp-sharded),
+// and, as leveldb::Cache with 16 shards, what lru::NewLevelDBBlockCache (block-exact),
+// lru::NewLevelDBCache (any-exact) and lru::NewLevelDBClockCache (block-clock) make.
 #include <cstdint>
 #include <cstdio>
 #include <cstdlib>
-#include <cstring>
 #include <memory>
 #include <mutex>
+#include <string>
 #include <string_view>
 #include <type_traits>
 #include <vector>
 
 #include "leveldb/cache.h"
 #include "leveldb_cache.h"
+#include "leveldb_clock_cache.h"
 #include "lru.h"
 #include "lru.hpp"
-#include "processor_time.hpp"
+#include "pairs.hpp"
 
 namespace {
 
@@ -154,86 +158,95 @@ class Classes {
   Cache cache_;
 };
 
-struct Times {
-  std::vector<double> hits, misses;
+enum class Kind { kHits, kMisses };
+
+struct Work {
+  Kind kind;
+  std::uint64_t entries, calls;
+
+  // A quarter more than the entries, so that a shard that got more than its share of them does not
+  // evict before the hits are measured.
+  std::uint64_t capacity() const { return entries + entries / 4; }
 };
 
+// Makes the calls, and ends the program if one of them is not what it should be.
+template <class Call>
+bench::Times Measure(const Work& work, const Call& call) {
+  return bench::TimesOf(1, static_cast<double>(work.calls), [&](std::size_t) {
+    std::uint64_t done = 0;
+    for (std::uint64_t n = 0; n < work.calls; n++) done += call();
+    if (done != work.calls) std::exit(3);
+  });
+}
+
 template <class Cache>
-void Measure(Cache cache, std::uint64_t entries, std::uint64_t calls, Times* times) {
-  for (std::uint64_t n = 0; n < entries; n++) {
-    if (!cache->Miss(BlockOf(n))) std::exit(2);
+bench::Times Measure(const Work& work, std::unique_ptr<Cache> cache) {
+  std::uint64_t fresh = 0;
+  for (std::uint64_t n = 0; n < work.entries; n++) {
+    if (!cache->Miss(BlockOf(fresh++))) std::exit(2);
   }
-  std::uint64_t random = 88172645463325252u;
-  std::uint64_t hits = 0;
-  double start = bench::ProcessorTime();
-  for (std::uint64_t call = 0; call < calls; call++) {
-    random ^= random << 13;
-    random ^= random >> 7;
-    random ^= random << 17;
-    hits += cache->Hit(BlockOf(random % entries));
+  if (work.kind == Kind::kHits) {
+    std::uint64_t random = 88172645463325252u;
+    return Measure(work, [&] {
+      random ^= random << 13;
+      random ^= random >> 7;
+      random ^= random << 17;
+      return cache->Hit(BlockOf(random % work.entries));
+    });
   }
-  times->hits.push_back((bench::ProcessorTime() - start) / static_cast<double>(calls) * 1e9);
-  if (hits != calls) std::exit(3);
-
   // After these every shard is full, so that each further miss evicts.
-  std::uint64_t fresh = entries;
-  for (std::uint64_t n = 0; n < entries; n++) cache->Miss(BlockOf(fresh++));
-  std::uint64_t misses = 0;
-  start = bench::ProcessorTime();
-  for (std::uint64_t call = 0; call < calls; call++) misses += cache->Miss(BlockOf(fresh++));
-  times->misses.push_back((bench::ProcessorTime() - start) / static_cast<double>(calls) * 1e9);
-  if (misses != calls) std::exit(3);
+  for (std::uint64_t n = 0; n < work.entries; n++) cache->Miss(BlockOf(fresh++));
+  return Measure(work, [&] { return cache->Miss(BlockOf(fresh++)); });
 }
 
-double Least(const std::vector<double>& times) {
-  return *std::min_element(times.begin(), times.end());
+// Measures a class that wraps a cache.
+template <class Cache>
+bench::System Made(const char* name, const Work& work) {
+  return {name, [&work] { return Measure(work, std::make_unique<Cache>(work.capacity())); }};
 }
 
-void Print(const char* what, const std::vector<double>& times,
-           const std::vector<double>& level_dbs) {
-  std::printf("   %s %7.1f (%.2f)", what, Least(times), Least(times) / Least(level_dbs));
+// Measures a LevelDB cache.
+template <class New>
+bench::System Made(const char* name, const Work& work, const New& make) {
+  return {name, [&work, make] {
+            return Measure(work, std::make_unique<LevelDBs>(make(work.capacity())));
+          }};
+}
+
+std::vector<bench::System> SystemsFor(const Work& work) {
+  constexpr std::size_t kShards = 16;  // as many as LevelDB's own has, whatever the capacity
+  return {Made("leveldb-sharded", work, [](std::size_t n) { return leveldb::NewLRUCache(n); }),
+          Made<Calls<lru::Words>>("c-words", work),
+          Made<Calls<std::string_view>>("c-bytes", work),
+          Made<Classes<lru::Cache<Nothing, lru::Words>>>("cpp-unsharded", work),
+          Made<Classes<lru::ShardedCache<Nothing, lru::Words>>>("cpp-sharded", work),
+          Made("block-exact", work,
+               [](std::size_t n) { return lru::NewLevelDBBlockCache(n, kShards); }),
+          Made("any-exact", work, [](std::size_t n) { return lru::NewLevelDBCache(n, kShards); }),
+          Made("block-clock", work, [](std::size_t n) {
+            lru::BlockCacheOptions options;
+            options.capacity = n;
+            options.shards = kShards;
+            options.typical_charge = 1;
+            return lru::NewLevelDBClockCache(options);
+          })};
 }
 
 }  // namespace
 
 int main(int argc, char** argv) {
-  const int rounds = argc > 1 ? std::atoi(argv[1]) : 7;
+  const int rounds = argc > 1 ? std::atoi(argv[1]) : 9;
   const std::uint64_t calls = argc > 2 ? std::strtoull(argv[2], nullptr, 10) : 1000000;
   if (rounds < 1 || calls < 1 || argc > 3) {
     std::fprintf(stderr, "usage: cache_bench [ROUNDS [CALLS]]\n");
     return 2;
   }
-  const char* const names[] = {"LevelDB's own", "C, words",           "C, bytes",
-                               "C++, words",    "C++, words, shards", "LevelDBBlockCache",
-                               "LevelDBCache"};
-  constexpr std::size_t kCaches = sizeof names / sizeof *names;
   for (const std::uint64_t entries : {std::uint64_t{1000}, std::uint64_t{100000}}) {
-    Times times[kCaches];
-    // A quarter more than the entries, so that a shard that got more than its share of them does
-    // not evict before the hits are measured.
-    const std::uint64_t capacity = entries + entries / 4;
-    for (int round = 0; round < rounds; round++) {
-      Measure(std::make_unique<LevelDBs>(leveldb::NewLRUCache(capacity)), entries, calls,
-              &times[0]);
-      Measure(std::make_unique<Calls<lru::Words>>(capacity), entries, calls, &times[1]);
-      Measure(std::make_unique<Calls<std::string_view>>(capacity), entries, calls, &times[2]);
-      Measure(std::make_unique<Classes<lru::Cache<Nothing, lru::Words>>>(capacity), entries, calls,
-              &times[3]);
-      Measure(std::make_unique<Classes<lru::ShardedCache<Nothing, lru::Words>>>(capacity), entries,
-              calls, &times[4]);
-      // As many shards as LevelDB's own has, whatever the capacity.
-      Measure(std::make_unique<LevelDBs>(lru::NewLevelDBBlockCache(capacity, 16)), entries, calls,
-              &times[5]);
-      Measure(std::make_unique<LevelDBs>(lru::NewLevelDBCache(capacity, 16)), entries, calls,
-              &times[6]);
-    }
-    std::printf("%llu entries: nanoseconds, the least of %d rounds (ratio to LevelDB's)\n",
-                static_cast<unsigned long long>(entries), rounds);
-    for (std::size_t i = 0; i < kCaches; i++) {
-      std::printf("  %-20s", names[i]);
-      Print("hit", times[i].hits, times[0].hits);
-      Print("miss", times[i].misses, times[0].misses);
-      std::printf("\n");
+    for (const auto& [name, kind] :
+         {std::pair("hit_16", Kind::kHits), std::pair("miss_16", Kind::kMisses)}) {
+      const Work work = {kind, entries, calls};
+      bench::Compare(SystemsFor(work), std::string(name) + " " + std::to_string(entries) + " 1",
+                     rounds);
     }
   }
 }

@@ -2,8 +2,8 @@
 // header was there when this was compiled, and otherwise with lru::ShardedCache. Keys have 16
 // bytes, values are numbers on the heap, and caches have 16 shards.
 //
-//   clock_bench read_mostly [ROUNDS [THREADS..]]    by default 5 rounds, with 1, 2, 4 and 8 threads
-//   clock_bench hits [ROUNDS [ENTRIES..]]           by default 5 rounds, with 1,000, 100,000 and
+//   clock_bench read_mostly [ROUNDS [THREADS..]]    by default 9 rounds, with 1, 2, 4 and 8 threads
+//   clock_bench hits [ROUNDS [ENTRIES..]]           by default 9 rounds, with 1,000, 100,000 and
 //                                                   1,000,000 entries
 //   clock_bench count SYSTEM ENTRIES HITS           makes the hits of one system, for valgrind
 //   clock_bench count_misses SYSTEM ENTRIES MISSES  the same with misses, each of which adds an
@@ -49,6 +49,7 @@
 #include "rocksdb/cache.h"
 #include "rocksdb_cache.h"
 #include "rocksdb_clock_cache.h"
+#include "rocksdb_interface.hpp"
 #define HAS_ROCKSDB
 #endif
 
@@ -275,7 +276,7 @@ class AsCache {
       const bool is_hit = handle != nullptr;
       if (!is_hit) {
         auto* value = new std::uint64_t(key.first);
-        if (!cache_->Insert(slice, value, 1, Delete, &handle).ok()) std::exit(1);
+        if (!Insert(cache_, slice, value, 1, HelperFor<Delete>(), &handle).ok()) std::exit(1);
       }
       Keep(*static_cast<std::uint64_t*>(cache_->Value(handle)));
       cache_->Release(handle);
@@ -283,7 +284,7 @@ class AsCache {
     }
 
    private:
-    static void Delete(const rocksdb::Slice&, void* value) {
+    static void Delete(const rocksdb::Slice*, void* value) {
       delete static_cast<std::uint64_t*>(value);
     }
 
@@ -386,7 +387,7 @@ int main(int argc, char** argv) {
     if (numbers.size() != 2) return Usage();
     return Count(argv[2], numbers[0], numbers[1], mode == "count") ? 0 : Usage();
   }
-  const int rounds = numbers.empty() ? 5 : static_cast<int>(numbers[0]);
+  const int rounds = numbers.empty() ? 9 : static_cast<int>(numbers[0]);
   if (numbers.size() > 1) {
     numbers.erase(numbers.begin());
   } else {

@@ -41,17 +41,22 @@ struct System {
   std::function<Times()> run;
 };
 
-inline double Median(std::vector<double> numbers) {
+// The number below which so many quarters of the others lie, as tools/speed/ratios.py has it.
+inline double Quartile(std::vector<double> numbers, std::size_t quarters) {
   std::sort(numbers.begin(), numbers.end());
-  const std::size_t count = numbers.size();
-  return (numbers[(count - 1) / 2] + numbers[count / 2]) / 2;
+  const double at = static_cast<double>((numbers.size() - 1) * quarters) / 4;
+  const auto below = static_cast<std::size_t>(at);
+  const double above = numbers[std::min(below + 1, numbers.size() - 1)];
+  return numbers[below] + (at - static_cast<double>(below)) * (above - numbers[below]);
 }
+
+inline double Median(const std::vector<double>& numbers) { return Quartile(numbers, 2); }
 
 // Runs the first system, and in each round each of the others, after each of which the first runs
 // again. `what` is a workload, a number of entries, and a number of threads. Prints for each system
 // the median of its wall times, as tools/speed/pictures.py reads it, and its hit ratio; and for the
 // others the medians of their ratios to the first, each of a time and the mean of the first's times
-// before and after it, and between which ratios they lie.
+// before and after it, and the quartiles, between which half of the ratios lie.
 inline void Compare(const std::vector<System>& systems, const std::string& what, int rounds) {
   struct Series {
     std::vector<double> wall, wall_ratios, processor_ratios;
@@ -84,8 +89,8 @@ inline void Compare(const std::vector<System>& systems, const std::string& what,
     std::printf("# %s, %s to %s:", what.c_str(), systems[n].name, systems[0].name);
     for (const auto& [name, ratios] : {std::pair("wall", &all[n].wall_ratios),
                                        std::pair("processor", &all[n].processor_ratios)}) {
-      const auto [least, most] = std::minmax_element(ratios->begin(), ratios->end());
-      std::printf(" %s %.2f (%.2f to %.2f)", name, Median(*ratios), *least, *most);
+      std::printf(" %s %.2f (%.2f to %.2f)", name, Median(*ratios), Quartile(*ratios, 1),
+                  Quartile(*ratios, 3));
     }
     std::printf("\n");
   }

@@ -1,23 +1,29 @@
-// Measures random reads of a LevelDB database with this block cache and with LevelDB's own.
+// Compares random reads of a LevelDB database with this block cache, and with LevelDB's own, by
+// pairs of runs (pairs.hpp).
 //
-//   read_bench FOLDER [PAIRS [READS]]     creates the database in FOLDER if it does not exist
+//   read_bench FOLDER [ROUNDS [READS]]     creates the database in FOLDER if it does not exist; by
+//                                          default 9 rounds of 300,000 reads
 //
-// For each capacity and number of threads, the two caches take turns. Prints the processor time per
-// read, the least of all runs of each cache, and the ratio of the two.
+// The caches are LevelDB's own (leveldb-sharded), and what lru::NewLevelDBBlockCache (block-exact)
+// and lru::NewLevelDBClockCache (block-clock) make. reads_all: the cache has room for all blocks,
+// 64 MiB; reads_tenth: for about a tenth of them, 2 MiB. By 1 and by 4 threads, once the cache is
+// warm.
 #include <sys/stat.h>
 
-#include <algorithm>
 #include <cstddef>
 #include <cstdint>
 #include <cstdio>
 #include <cstdlib>
 #include <memory>
 #include <string>
+#include <vector>
 
 #include "leveldb/cache.h"
 #include "leveldb/db.h"
 #include "leveldb/options.h"
 #include "leveldb_cache.h"
+#include "leveldb_clock_cache.h"
+#include "pairs.hpp"
 #include "random_reads.hpp"
 
 namespace {
@@ -50,44 +56,58 @@ void Fill(const std::string& path) {
   for (int turn = 0; turn < 2; turn++) db->CompactRange(nullptr, nullptr);
 }
 
-// Nanoseconds of processor time per read, once the cache is warm.
-double Measure(const std::string& path, leveldb::Cache* new_cache, std::size_t threads,
-               std::uint64_t reads) {
+// What a read takes, once the cache is warm.
+bench::Times Measure(const std::string& path, leveldb::Cache* new_cache, std::size_t threads,
+                     std::uint64_t reads) {
   const std::unique_ptr<leveldb::Cache> cache(new_cache);
   const std::unique_ptr<leveldb::DB> db = Open(path, cache.get(), false);
   const auto get = [&](const std::string& key, std::string* value) {
     Check(db->Get(leveldb::ReadOptions(), key, value));
   };
-  return bench::TimesOfReads(get, threads, reads, kKeys, [] {}).processor;
+  return bench::TimesOfReads(get, threads, reads, kKeys, [] {});
 }
 
-void Compare(const std::string& path, std::size_t capacity, std::size_t threads, std::size_t pairs,
-             std::uint64_t reads) {
-  double own = 1e18, proved = 1e18;
-  for (std::size_t pair = 0; pair < pairs; pair++) {
-    own = std::min(own, Measure(path, leveldb::NewLRUCache(capacity), threads, reads));
-    proved = std::min(proved, Measure(path, lru::NewLevelDBBlockCache(capacity), threads, reads));
-  }
-  std::printf("%2zu MiB, %zu thread%s: LevelDB's own %.2f us, this %.2f us, ratio %.2f\n",
-              capacity >> 20, threads, threads == 1 ? " " : "s", own / 1e3, proved / 1e3,
-              proved / own);
-}
+struct Named {
+  const char* name;
+  leveldb::Cache* (*make)(std::size_t capacity);
+};
+
+constexpr Named kCaches[] = {
+    {"leveldb-sharded", leveldb::NewLRUCache},
+    {"block-exact", [](std::size_t capacity) { return lru::NewLevelDBBlockCache(capacity); }},
+    {"block-clock", [](std::size_t capacity) { return lru::NewLevelDBClockCache(capacity); }}};
+
+struct Work {
+  const char* name;
+  std::size_t mebibytes;
+};
+
+constexpr Work kWork[] = {{"reads_all", 64}, {"reads_tenth", 2}};
 
 }  // namespace
 
 int main(int argc, char** argv) {
-  const std::size_t pairs = argc > 2 ? std::strtoul(argv[2], nullptr, 10) : 7;
+  const int rounds = argc > 2 ? std::atoi(argv[2]) : 9;
   const std::uint64_t reads = argc > 3 ? std::strtoull(argv[3], nullptr, 10) : 300000;
-  if (argc < 2 || argc > 4 || pairs == 0 || reads < 4) {
-    std::fprintf(stderr, "usage: read_bench FOLDER [PAIRS [READS]]\n");
+  if (argc < 2 || argc > 4 || rounds < 1 || reads < 4) {
+    std::fprintf(stderr, "usage: read_bench FOLDER [ROUNDS [READS]]\n");
     return 2;
   }
   const std::string path = argv[1];
   struct stat found;
   if (stat(path.c_str(), &found) != 0) Fill(path);
-  for (const std::size_t mebibytes : {2u, 8u, 64u}) {
+  for (const Work& work : kWork) {
     for (const std::size_t threads : {1u, 4u}) {
-      Compare(path, mebibytes << 20, threads, pairs, reads);
+      std::vector<bench::System> systems;
+      for (const Named& cache : kCaches) {
+        systems.push_back({cache.name, [&] {
+                             return Measure(path, cache.make(work.mebibytes << 20), threads, reads);
+                           }});
+      }
+      bench::Compare(systems,
+                     std::string(work.name) + " " + std::to_string(work.mebibytes) + " " +
+                         std::to_string(threads),
+                     rounds);
     }
   }
 }
