@@ -33,11 +33,11 @@
  *                   those that change it or look at all of it, under a mutex of its own
  *     lru_reader_*  calls on a clock without that mutex, by a thread that has a reader of it
  *
- * The library is proved: each call is one step of the cache that docs/DEFINITIONS.md in the sources
- * defines, or is refused with a code and changes nothing. The library takes no lock and starts no
- * thread; lru_threads.h and lru_threads_clock.h add locks. The archive is for Linux with glibc or
- * musl. Link it into a shared object with -Wl,--whole-archive, or there is nothing in it;
- * liblru.so.2 is one.
+ * The library is proved: each call on a cache is one step of the cache that docs/DEFINITIONS.md in
+ * the sources defines, or is refused with a code and changes nothing; of the clock less is proved.
+ * The library takes no lock and starts no thread; lru_threads.h and lru_threads_clock.h add locks.
+ * The archive is for Linux with glibc or musl. Link it into a shared object with
+ * -Wl,--whole-archive, or there is nothing in it; liblru.so.2 is one.
  *
  * WHAT THE CALLER MUST ENSURE. The proofs rely on the following, and it is not checked at run time:
  *
@@ -149,9 +149,10 @@ extern "C" {
 #endif
 
 /* The result of a call. After a refusal nothing has changed: no entry was added, moved, pinned or
- * evicted, and nothing was put into a chain. There is one exception: where lru_clock_ready has no
- * memory, or a number would overflow, the making has ended. If a call could be refused for several
- * reasons, any of them may be told. */
+ * evicted, and nothing was put into a chain. There are two exceptions: where lru_clock_ready has no
+ * memory, or a number would overflow, the making has ended; and lru_clock_begin_bytes may have
+ * erased the entry of another key, as it says. If a call could be refused for several reasons, any
+ * of them may be told. */
 typedef uint32_t lru_code;
 
 enum {
@@ -705,15 +706,18 @@ bool lru_chain_is_empty(lru_chain *chain);
  * for a key does not find its entry, and may add a second one; nothing worse happens.
  *
  * Less is proved of these calls than of the others: that a call on a handle that is not open
- * changes nothing, that at most one entry leaves in a call, which tells it, that none leaves while
- * its slot counts a pin, that a strict add or ready is refused exactly if the charge would take the
- * total above the capacity, that an insert that is refused changes no entry, that the total has
- * grown by the charge after one that is not, less that of the entry that left, and is within the
- * capacity after a strict one, that no look-up under the mutex finds a key after it was erased,
+ * changes nothing, that at most one entry leaves in a make_room, release_and_evict, collect or
+ * prune, and none unless LRU_GONE is told, that none leaves while its slot counts a pin, that a
+ * strict add or ready stores nothing that would take the total above the capacity, and is told
+ * LRU_FULL for no other reason, that an insert that is refused changes no entry, that the total has
+ * grown by the charge after one that stores its value, less that of the entry that left, and is
+ * within the capacity after a strict one, that the index has no entry of a key after it was erased,
  * that nobody is told LRU_MAKE while a caller makes the value of the key, unless it was erased,
- * added or inserted meanwhile, and that each ticket is accepted once. That a look-up counts its
- * pin, that each value is told to leave once, that an insert replaces the key's entry, and that
- * nobody finds a value that was made for an erased key, is tested.
+ * added or inserted meanwhile, and that a ticket is accepted only while its making goes on, and
+ * ends it. That at most one entry leaves in any other call, that a look-up counts its pin, and
+ * finds the entry that the index has, that each value is told to leave once, that an insert
+ * replaces the key's entry, that no ticket is told twice, and that nobody finds a value that was
+ * made for an erased key, is tested.
  *
  * Giving a pin back evicts nothing. If pinned entries keep the total above the capacity, whoever
  * gives back the last pin of one is told LRU_ABOVE. To have the total down at once, take the mutex

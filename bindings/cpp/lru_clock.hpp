@@ -23,7 +23,7 @@
 //   - `read` calls its function without the lock. `contains` is a use of the value. No call tells
 //     how many handles a value has.
 //   - `stats` counts what is made, added and evicted, but no hits, misses and waits.
-//   - There is no hash of the program's own.
+//   - There is no hash of the program's own, and no `shrink_to_fit`.
 //
 // Of the clock of lru.h less is proved than of the other caches: THE CLOCK there says what. This
 // header adds the locks, the waiting and the values. It is ordinary C++, tested with
