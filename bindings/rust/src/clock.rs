@@ -19,6 +19,7 @@
 //!   refused.
 //! - [`contains`](Cache::contains) counts as a use.
 //! - [`Maker::ready`] may be refused.
+//! - There is no `shrink_to_fit`.
 //! - A strict limit ([`set_strict_limit`](Cache::set_strict_limit)) may refuse a value once it was
 //!   made, if others took its room meanwhile. Values are evicted before one that is made is
 //!   refused, and before the making begins too: only then it is known that all that is left is

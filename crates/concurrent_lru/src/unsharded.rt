@@ -519,9 +519,11 @@ impl<K: Hash + Eq + Clone + Drop, V: Drop, R: Wait, F: Fit<K, V>> LruCache<K, V,
     /// Held entries stay and count, so a new entry may take the total above the capacity. While the
     /// limit is strict, `get_or_init` and the calls named after it, `begin`, `try_begin`, and
     /// `insert` return `Full` instead, if the charge of a new entry exceeds the capacity together
-    /// with the charges of the held entries. Then nothing changes and nothing is evicted. A call
-    /// that finds an entry adds no charge, and is never refused in this way. A total that is above
-    /// the capacity when the limit becomes strict only falls until it is no longer.
+    /// with the charges of the held entries. Then nothing changes and nothing is evicted. So do
+    /// `Maker::ready_with`, and `get_or_init_with` after its loader, if the charge that is told
+    /// does; the making has then failed. A call that finds an entry adds no charge, and is never
+    /// refused in this way. A total that is above the capacity when the limit becomes strict only
+    /// falls until it is no longer.
     pub fn set_strict_limit(&self, strict: bool) {
         let mut guard = self.door.lock();
         guard.set_strict(strict);

@@ -1,7 +1,8 @@
 //! A cache in shards whose hits take no lock, for any number of threads.
 //!
 //! A hasher chooses the shard of a key. A hit pins its entry by a compare-exchange, and dropping
-//! its handle is one subtraction. Everything else takes the lock of the key's shard.
+//! its handle is one subtraction; clones of handles, owned handles and pasts take no lock either.
+//! All other calls take the lock of the key's shard.
 ghost use Rattle.std.specs.Prelude.{◌≡◌, ◌≢◌, ◌<◌, ◌/◌, Some, None, Ok, Err, IfOk, IfErr, IfSome};
 ghost use Rattle.std.specs.Prelude.{length, vec_len};
 ghost use Rattle.std.specs.Fn.{FnOnceReturnsAt, FnOnceTakesAt};

@@ -128,10 +128,10 @@ where
     /// idle afterwards. Any other used key is idle if and only if, at every moment since its last
     /// use, it weighed at most the capacity of that moment (`fitted`). Each stamp that was present
     /// or was given out is in exactly one place: in the cache, in the answer of `fail`, or in an
-    /// evicted list (`stamps`). If no step is a `Begin` or an `Insert`, but only `BeginStrictly`
-    /// and `InsertStrictly` add entries, a total that was at most the capacity stays so as long as
-    /// the capacity is not lowered (`limit`). The idle order is written at most once for each step
-    /// that is not refused, twice for a `Read`, and once for each evicted entry (`work`).
+    /// evicted list (`stamps`). If no step is a `Begin`, a `ReadyWith` or an `Insert`, but each is
+    /// strict, a total that was at most the capacity stays so as long as the capacity is not
+    /// lowered (`limit`). The idle order is written at most once for each step that is not refused,
+    /// twice for a `Read`, and once for each evicted entry (`work`).
     pub fn run(&mut self, steps: Vec<Step<K, M::Share>>) -> Result<Vec<Answer<K, V, M>>, Refusal>
         requires { AllByRecursion IsCharged (map (request_of_by M.seen) steps.items) }
         ensures run { IfOk result (λ answers. Run K.eq self.old.cache

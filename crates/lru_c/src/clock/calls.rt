@@ -204,10 +204,10 @@ pub extern "C" fn lru_clock_add(
 /// its maker alone, and the total has grown by the charge, less that of the entry that left, if one
 /// has. After a strict call it is within the capacity.
 ///
-/// Returns `NO_CHARGE` if the charge is 0, `FULL` if the call is strict, there is too little room,
-/// and no entry can be evicted, `MEMORY` if the allocator refuses, `OVERFLOW` if a number would
-/// overflow, and `CLOSED` if the handle is not open. No entry has changed then, and the value is
-/// not taken.
+/// Returns `NO_CHARGE` if the charge is 0, `FULL` if the call is strict and evicting all that can
+/// be evicted would leave too little room, `MEMORY` if the allocator refuses, `OVERFLOW` if a
+/// number would overflow, and `CLOSED` if the handle is not open. No entry has changed then, and
+/// the value is not taken.
 #[unsafe(no_mangle)]
 pub extern "C" fn lru_clock_insert(
     clock: &mut LruClock,
