@@ -4,7 +4,7 @@ Draws pictures of what was measured: of lines `SYSTEM WORKLOAD ENTRIES THREADS N
 files, of which the least of each kind counts, and of what hit_ratio wrote in a file *.csv. In
 FOLDER:
 speed-threads.svg  the time of a call of read_mostly by the number of threads
-speed-blocks.svg   the same, of caches with the interface of RocksDB's
+speed-blocks.svg   the same in C and C++, with caches that have the interface of RocksDB's
 speed-entries.svg  the time of a hit and of a miss by the number of entries, of one thread
 speed-hits.svg     the time of a call of read_mostly by the hit ratio, in a chart for each capacity:
                    of four threads at the largest, and of one thread at the others
@@ -54,12 +54,23 @@ COLOURS = {
     "caffeine": ("#8b1a1a", "#f28b82"),
     "block-clock": ("#0a7a4b", "#5fd6a3"),
     "block-exact": ("#0b62c4", "#6cb6ff"),
+    "c-clock": ("#3d6b00", "#a5d66a"),
+    "cpp-clock": ("#00707c", "#4fd0de"),
+    "cpp-sharded": ("#6a2bb8", "#c09cf5"),
     "exact": ("#0b62c4", "#6cb6ff"),
     "clock": ("#0a7a4b", "#5fd6a3"),
 }
 
-# What the picture of caches with RocksDB's interface shows.
-BLOCKS = {"block-clock", "block-exact", "rocksdb-hyper", "rocksdb-sharded"}
+# What the picture of caches in C and C++ shows.
+IN_C_AND_CPP = {
+    "c-clock",
+    "cpp-clock",
+    "cpp-sharded",
+    "block-clock",
+    "block-exact",
+    "rocksdb-hyper",
+    "rocksdb-sharded",
+}
 
 OTHER_COLOURS = ("#5a5a5a", "#b4b4b4")
 
@@ -91,6 +102,9 @@ CALLED = {
     "sharded": "16 shards",
     "port-clock": "lru_clock",
     "port-clock-1": "lru_clock, one shard",
+    "c-clock": "C, clock",
+    "cpp-clock": "lru::ClockCache",
+    "cpp-sharded": "lru::ShardedCache",
     "block-clock": "NewRocksDBClockCache",
     "block-exact": "NewRocksDBBlockCache",
     "hyper": "HyperClock",
@@ -233,14 +247,14 @@ def by_threads(least):
     return Chart("read_mostly", "threads", lines_of(points), "")
 
 
-def blocks_by_threads(least):
-    """The chart of read_mostly as a rocksdb::Cache, by threads."""
+def in_c_by_threads(least):
+    """The chart of read_mostly in C and C++, by threads."""
     points = [
         (system, threads, ns)
         for (system, work, _, threads), ns in least.items()
-        if work == "read_mostly_16" and system in BLOCKS
+        if work == "read_mostly_16" and system in IN_C_AND_CPP
     ]
-    return Chart("read_mostly as rocksdb::Cache", "threads", lines_of(points), "")
+    return Chart("read_mostly", "threads", lines_of(points), "")
 
 
 def by_entries(least, title, works):
@@ -439,7 +453,7 @@ def main():
     pictures = {
         "speed-threads.svg": ("Time of a call by threads", [by_threads(least)]),
         "speed-blocks.svg": (
-            "Time of a call by threads, under RocksDB's interface", [blocks_by_threads(least)]
+            "Time of a call by threads, in C and C++", [in_c_by_threads(least)]
         ),
         "speed-entries.svg": ("Time of a call by entries, with one thread and one lock", [
             by_entries(least, "Hit", {"hit_get": "", "hit_read": "-read"}),
