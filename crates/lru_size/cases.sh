@@ -144,9 +144,9 @@ ends 0 "4,5,0,13,2"$'\n' "" "printf 'a\nb 5\na\nb 5\na\n' |
 # with charges that differ, another order would keep both a and b here, and hit twice
 ends 0 "2,6,0,8,1"$'\n' "" "printf 'c 2\na\nb\nc 2\na\nb\n' |
     lru_size --optimum --csv - --capacities 2 | sed 1d"
-# the exact order and the clock hit as docs/SPEED.md says of entries of charge 1
+# the exact order and the clock hit as docs/hit_ratios.csv says of entries of charge 1
 for name in LevelDB RocksDB; do
-    wanted=$(grep "^| $name |" "$top/docs/SPEED.md" | tr -d '|,' | awk '{ print $2, $3, $4 }')
+    wanted=$(awk -F, -v name="$name" '$1 == name { print $3, $4, $5 }' "$top/docs/hit_ratios.csv")
     capacities=$(cut -d' ' -f1 <<< "$wanted" | paste -sd,)
     ends 0 "$wanted"$'\n' "" "cut -d' ' -f1 $crate/data/${name,,} |
         lru_size --clock --csv - --capacities $capacities |
