@@ -1,17 +1,17 @@
 """Reads what benchmarks print: lines `SYSTEM WORKLOAD ENTRIES THREADS NANOSECONDS`, and
 `# hits SYSTEM WORKLOAD ENTRIES THREADS RATIO`. Each line is given as its words; others are left
 out."""
-import math
+import collections
+import statistics
 
 
-def least_of(lines):
-    """The least nanoseconds of each (system, workload, entries, threads)."""
-    least = {}
+def median_times(lines):
+    """The median of the nanoseconds of each (system, workload, entries, threads)."""
+    times = collections.defaultdict(list)
     for words in lines:
         if len(words) == 5 and words[0] != "#":
-            kind = (words[0], words[1], int(words[2]), int(words[3]))
-            least[kind] = min(float(words[4]), least.get(kind, math.inf))
-    return least
+            times[words[0], words[1], int(words[2]), int(words[3])].append(float(words[4]))
+    return {kind: statistics.median(every) for kind, every in times.items()}
 
 
 def ratios_of(lines):

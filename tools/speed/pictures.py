@@ -1,7 +1,7 @@
 #!/usr/bin/env python3
 """usage: pictures.py FOLDER MEASURED..
 Draws pictures of what was measured: of lines `SYSTEM WORKLOAD ENTRIES THREADS NANOSECONDS` in these
-files, of which the least of each kind counts, and of what hit_ratio wrote in a file *.csv. In
+files, of which the median of each kind counts, and of what hit_ratio wrote in a file *.csv. In
 FOLDER:
 speed-threads.svg  the time of a call of read_mostly by the number of threads
 speed-blocks.svg   the same in C and C++, with caches that have the interface of RocksDB's
@@ -21,7 +21,7 @@ from pathlib import Path
 from typing import NamedTuple
 
 sys.dont_write_bytecode = True
-from measured import least_of, ratios_of  # noqa: E402
+from measured import median_times, ratios_of  # noqa: E402
 
 # The width of a picture, of the numbers left of its lines, and of the labels right of them.
 WIDTH, LEFT, RIGHT = 860, 64, 270
@@ -231,37 +231,37 @@ def lines_of(points):
     return dict(lines)
 
 
-def capacities(least):
+def capacities(times):
     """The capacities of read_mostly, the largest first."""
-    return sorted({kind[2] for kind in least if kind[1] == "read_mostly"}, reverse=True)
+    return sorted({kind[2] for kind in times if kind[1] == "read_mostly"}, reverse=True)
 
 
-def by_threads(least):
+def by_threads(times):
     """The chart of read_mostly at its largest capacity, by threads."""
-    largest = next(iter(capacities(least)), None)
+    largest = next(iter(capacities(times)), None)
     points = [
         (system, threads, ns)
-        for (system, work, entries, threads), ns in least.items()
+        for (system, work, entries, threads), ns in times.items()
         if work == "read_mostly" and entries == largest and system not in CLOSE
     ]
     return Chart("read_mostly", "threads", lines_of(points), "")
 
 
-def in_c_by_threads(least):
+def in_c_by_threads(times):
     """The chart of read_mostly in C and C++, by threads."""
     points = [
         (system, threads, ns)
-        for (system, work, _, threads), ns in least.items()
+        for (system, work, _, threads), ns in times.items()
         if work == "read_mostly_16" and system in IN_C_AND_CPP
     ]
     return Chart("read_mostly", "threads", lines_of(points), "")
 
 
-def by_entries(least, title, works):
+def by_entries(times, title, works):
     """A chart of one thread on one lock, by entries. Of each workload the systems get an ending."""
     points = [
         (system + works[work], entries, ns)
-        for (system, work, entries, threads), ns in least.items()
+        for (system, work, entries, threads), ns in times.items()
         if work in works and threads == 1 and system + works[work] not in SAME
     ]
     return Chart(title, "entries", lines_of(points), "one lock")
@@ -277,12 +277,12 @@ def hundredths(ratios):
     return tuple(number * step / 100 for number in range(first, last + 1))
 
 
-def by_hits(least, ratios, capacity, threads):
+def by_hits(times, ratios, capacity, threads):
     """The chart of read_mostly at a capacity, by hit ratios, of so many threads."""
     kinds = ("read_mostly", capacity, threads)
     points = [
         (kind[0], ratios[kind], ns)
-        for kind, ns in least.items()
+        for kind, ns in times.items()
         if kind in ratios and kind[1:] == kinds and kind[0] not in CLOSE
     ]
     shown = hundredths([ratio for _, ratio, _ in points])
@@ -290,13 +290,13 @@ def by_hits(least, ratios, capacity, threads):
     return Chart(title, "hit ratio", lines_of(points), "", shown)
 
 
-def every_by_hits(least, ratios):
+def every_by_hits(times, ratios):
     """A chart by hit ratios for each capacity: of four threads at the largest, and of one thread at
     the others, since with several the hit ratio of a short trace depends on how far they are apart
     in it."""
-    first, *others = capacities(least) or [0]
-    charts = [by_hits(least, ratios, first, 4)]
-    return charts + [by_hits(least, ratios, capacity, 1) for capacity in others]
+    first, *others = capacities(times) or [0]
+    charts = [by_hits(times, ratios, first, 4)]
+    return charts + [by_hits(times, ratios, capacity, 1) for capacity in others]
 
 
 def by_capacity(rows, trace):
@@ -449,17 +449,17 @@ def main():
     folder, files = Path(sys.argv[1]), [Path(name) for name in sys.argv[2:]]
     lines = list(lines_in(file for file in files if file.suffix != ".csv"))
     rows = list(rows_in(file for file in files if file.suffix == ".csv"))
-    least, ratios = least_of(lines), ratios_of(lines)
+    times, ratios = median_times(lines), ratios_of(lines)
     pictures = {
-        "speed-threads.svg": ("Time of a call by threads", [by_threads(least)]),
+        "speed-threads.svg": ("Time of a call by threads", [by_threads(times)]),
         "speed-blocks.svg": (
-            "Time of a call by threads, in C and C++", [in_c_by_threads(least)]
+            "Time of a call by threads, in C and C++", [in_c_by_threads(times)]
         ),
         "speed-entries.svg": ("Time of a call by entries, with one thread and one lock", [
-            by_entries(least, "Hit", {"hit_get": "", "hit_read": "-read"}),
-            by_entries(least, "Miss that evicts an entry", {"miss_evict": ""}),
+            by_entries(times, "Hit", {"hit_get": "", "hit_read": "-read"}),
+            by_entries(times, "Miss that evicts an entry", {"miss_evict": ""}),
         ]),
-        "speed-hits.svg": ("Time of a call and hit ratio", every_by_hits(least, ratios)),
+        "speed-hits.svg": ("Time of a call and hit ratio", every_by_hits(times, ratios)),
         "speed-orders.svg": (
             "Hit ratio by capacity", [by_capacity(rows, trace) for trace in ORDERED]
         ),
