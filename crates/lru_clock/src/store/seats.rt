@@ -42,7 +42,9 @@ pub struct Seats<K: Eq> {
     total: u64,
     seats: Vec<Seat<K>>,
     entries: usize,
-    // The first of the linked vacant places, or a place without a seat if there is none.
+    // The first of the linked vacant places, the last of which leads to the first place without a
+    // seat. So those that were given back come first, the latest before the others, and then those
+    // that never had an entry, in the order of their places.
     vacant: u32,
     words: Words,
 }
@@ -74,7 +76,7 @@ impl<K: Eq + Drop> Seats<K> {
             total: 0,
             seats: Vec::new(alloc),
             entries: 0,
-            vacant: u32::MAX,
+            vacant: 0,
             words,
         })
     }
@@ -171,8 +173,7 @@ impl<K: Eq + Drop> Seats<K> {
         ensures seats { AddsVacant self.old self.new }
     {
         let wider = widened(&self.seats, self.words.count())?;
-        self.seats.push(Seat::vacant(self.vacant))?;
-        self.vacant = place;
+        self.seats.push(Seat::vacant(place.saturating_add(1)))?;
         match wider {
             Some(words) => {
                 self.words = words;

@@ -42,6 +42,8 @@ pub(crate) struct Plain<S: BuildHasher> {
     capacity: u64,
     is_strict: bool,
     places: Vec<Option<Entry>>,
+    // The last of them is taken next. Behind those that never had an entry, the lowest place last,
+    // come those that were given back.
     vacant: Vec<usize>,
     hand: usize,
     sweep: usize,
@@ -177,7 +179,7 @@ impl<S: BuildHasher + Drop> Plain<S> {
         if self.places.len() >= self.room {
             self.add_page()?;
         }
-        self.vacant.push(self.places.len())?;
+        self.vacant.insert(0, self.places.len())?;
         self.places.push(None)?;
         self.young.push(false)?;
         Ok(())
