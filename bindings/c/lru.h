@@ -706,8 +706,8 @@ bool lru_chain_is_empty(lru_chain *chain);
  * for a key does not find its entry, and may add a second one; nothing worse happens.
  *
  * Less is proved of these calls than of the others: that a call on a handle that is not open
- * changes nothing, that at most one entry leaves in a make_room, release_and_evict, collect or
- * prune, and none unless LRU_GONE is told, that none leaves while its slot counts a pin, that a
+ * changes nothing, that at most one entry leaves in a make_room, release_and_evict, collect, prune
+ * or erase, and none unless LRU_GONE is told, that none leaves while its slot counts a pin, that a
  * strict add or ready stores nothing that would take the total above the capacity, and is told
  * LRU_FULL for no other reason, that an insert that is refused changes no entry, that the total has
  * grown by the charge after one that stores its value, less that of the entry that left, and is

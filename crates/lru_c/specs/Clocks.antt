@@ -5,7 +5,7 @@ use Rattle.std.proofs.Math.ListN.{set}
 use Rattle.lru_clock.specs.Begun.{IsBegun}
 use Rattle.lru_clock.specs.Evictions.{places_of, refuses, IsWithin}
 use Rattle.lru_clock.specs.Makings.{HasEnded, has_number, is_of}
-use Rattle.lru_clock.specs.SeatChanges.{AddsVacant, Charges, ChargesForOther}
+use Rattle.lru_clock.specs.SeatChanges.{AddsVacant, Charges, ChargesForOther, KeepsCharges, VacatesListed}
 use Rattle.lru_clock.specs.Seats.{Seat, seat, LacksKey}
 use Rattle.lru_clock.specs.declared.clock_core.makings.Begun.TheVariants as begun
 use Rattle.lru_clock.specs.declared.shard_state.ShardState.{ShardState}
@@ -61,6 +61,11 @@ LeavesAny c = (c ≡ code.gone) ⊎ (c ≡ code.done)
 abbrev pub LeavesOne : Seats → ℕ → Seats → Type 0
 LeavesOne old c new = ((c ≡ code.gone) × (p : ℕ) × (new ≡ set old p (seat 0 0 None))) ⊎ ((c ≡ code.done) × (new ≡ old))
 
+-- An entry that the index had left, whose seat is vacant now, and no other seat changed; or none
+-- did, and no charge changed.
+abbrev pub LeavesListed : Seats → ℕ → Seats → Type 0
+LeavesListed old c new = ((c ≡ code.gone) × VacatesListed old new) ⊎ ((c ≡ code.done) × KeepsCharges old new)
+
 -- The entry at a place left, whose seat is vacant now; or none did, and nothing changed.
 abbrev pub LeavesAt : ℕ → State → ℕ → State → Type 0
 LeavesAt p old c new = ((c ≡ code.gone) × (new.seats ≡ set old.seats p (seat 0 0 None))) ⊎ ((c ≡ code.done) × (new ≡ old))
@@ -86,10 +91,10 @@ pub record AreCounts (s : State) (t : LruClockCounts) : Type 0 where
 abbrev pub is_making : Words → State → Bool
 is_making key s = list_any (is_of words_eq key) s.makings
 
--- The index has no entry of the key, and the entry that it had left if nobody had pinned it. Later
--- callers wait for no making of the key.
-abbrev pub Erases : ℕ → Words → ℕ → State → Type 0
-Erases hash key c new = LeavesAny c × LacksKey words_eq new.seats (tag_of hash) key × (is_making key new ≡ false)
+-- The index has no entry of the key, and the entry that it had left if nobody had pinned it. No
+-- other entry left. Later callers wait for no making of the key.
+abbrev pub Erases : ℕ → Words → State → ℕ → State → Type 0
+Erases hash key old c new = LeavesListed old.seats c new.seats × LacksKey words_eq new.seats (tag_of hash) key × (is_making key new ≡ false)
 
 -- An entry of this charge and value was stored and pinned, and later callers wait for no making of
 -- the key; or the key has one, which was looked up; or it is refused, by a strict call if it would

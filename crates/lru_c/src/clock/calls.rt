@@ -317,7 +317,8 @@ pub extern "C" fn lru_clock_find(
 
 /// Invalidates the entry of a key: no lookup that begins later finds it. If nobody has pinned it,
 /// it leaves, and `GONE` is returned with it, otherwise `DONE`: it is then to be collected after
-/// its last pin. A value that is being made for the key is then for its maker alone.
+/// its last pin. No other entry leaves. A value that is being made for the key is then for its
+/// maker alone.
 ///
 /// Returns `CLOSED` if the handle is not open.
 #[unsafe(no_mangle)]
@@ -329,7 +330,7 @@ pub extern "C" fn lru_clock_erase(
     left: &mut LruLeft,
 ) -> u32
     ensures told { OnClock clock.old.clock.held result clock.new.clock.held
-        (λ o n. Erases hash (words first second) result n) }
+        (λ o n. Erases hash (words first second) o result n) }
     ensures kept { MatchBool (result == codes.gone) ⊤ (left.new ≡ left.old) }
 {
     match clock.get_mut() {

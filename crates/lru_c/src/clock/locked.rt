@@ -225,7 +225,7 @@ impl Clock {
 
     // Invalidates the entry of a key, which leaves if nobody has pinned it, and its making.
     pub(crate) fn erase(&mut self, hash: u64, key: &Words, left: &mut LruLeft) -> u32
-        ensures erases { Erases hash key.now result self.new.state }
+        ensures erases { Erases hash key.now self.old.state result self.new.state }
         ensures kept { MatchBool (result == codes.gone) ⊤ (left.new ≡ left.old) }
     {
         let gone = self
