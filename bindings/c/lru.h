@@ -709,9 +709,9 @@ bool lru_chain_is_empty(lru_chain *chain);
  * changes nothing, that at most one entry leaves in a make_room, release_and_evict, collect, prune
  * or erase, and none unless LRU_GONE is told, that none leaves while its slot counts a pin, that a
  * strict add or ready stores nothing that would take the total above the capacity, and is told
- * LRU_FULL for no other reason, that an insert that is refused changes no entry, that the total has
- * grown by the charge after one that stores its value, less that of the entry that left, and is
- * within the capacity after a strict one, that the index has no entry of a key after it was erased,
+ * LRU_FULL for no other reason, that an add or an insert that is refused changes no entry, that the
+ * total has grown by the charge after an insert that stores its value, less that of the entry that
+ * left, and is within the capacity after a strict one, that the index has no entry of a key after it was erased,
  * that nobody is told LRU_MAKE while a caller makes the value of the key, unless it was erased,
  * added or inserted meanwhile, and that a ticket is accepted only while its making goes on, and
  * ends it. That at most one entry leaves in any other call, that a look-up counts its pin, and

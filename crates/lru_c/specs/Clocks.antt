@@ -99,12 +99,12 @@ Erases hash key old c new = LeavesListed old.seats c new.seats × LacksKey words
 -- An entry of this charge and value was stored and pinned, and later callers wait for no making of
 -- the key; or the key has one, which was looked up; or it is refused, by a strict call if it would
 -- take the total above the capacity, and never otherwise. A charge of 0, a lookup and a strict
--- refusal change nothing.
+-- refusal change nothing, and no other refusal changes an entry.
 abbrev pub Adds : Words → ℕ → ℕ → Bool → State → LruFound → State → Type 0
 Adds key charge value is_strict old t new =
     MatchBool (charge == 0) ((t ≡ bare_found code.no_charge) × (new ≡ old))
-    (((t.code ≡ code.hit) × (new ≡ old)) ⊎ (t ≡ bare_found code.overflow) ⊎ MatchBool (refuses is_strict old.capacity old.seats charge) ((t ≡ bare_found code.full) × (new ≡ old))
-    (((t.code ≡ code.done) × (t.value ≡ value) × Charges charge t.place old.seats new.seats × (is_making key new ≡ false)) ⊎ (t ≡ bare_found code.memory)))
+    (((t.code ≡ code.hit) × (new ≡ old)) ⊎ ((t ≡ bare_found code.overflow) × AddsVacant old.seats new.seats) ⊎ MatchBool (refuses is_strict old.capacity old.seats charge) ((t ≡ bare_found code.full) × (new ≡ old))
+    (((t.code ≡ code.done) × (t.value ≡ value) × Charges charge t.place old.seats new.seats × (is_making key new ≡ false)) ⊎ ((t ≡ bare_found code.memory) × AddsVacant old.seats new.seats)))
 
 -- An entry of this charge was stored, and the total has grown by it; or another entry has left, and
 -- the total is less by that one's charge.

@@ -176,7 +176,8 @@ pub extern "C" fn lru_clock_make_room(clock: &mut LruClock, charge: u64, left: &
 ///
 /// Returns `NO_CHARGE` if the charge is 0, `FULL` if the call is strict and the charge would take
 /// the total above the capacity, `MEMORY` if the allocator refuses, `OVERFLOW` if a number would
-/// overflow, and `CLOSED` if the handle is not open. The value is not taken then.
+/// overflow, and `CLOSED` if the handle is not open. No entry has changed then, and the value is
+/// not taken.
 #[unsafe(no_mangle)]
 pub extern "C" fn lru_clock_add(
     clock: &mut LruClock,

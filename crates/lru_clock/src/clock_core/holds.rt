@@ -108,6 +108,7 @@ impl<K: Eq + Clone + Drop, V: Copy + Drop, F: Fit<K, V>> Core<K, V, F> {
     /// Later callers wait for no making of the key.
     ///
     /// Returns `Memory` if a copy of the key is refused, and `Memory` and `Overflow` as `put` does.
+    /// No entry has changed then.
     pub fn hold_new(
         &self,
         state: &mut ShardState<K>,
@@ -122,6 +123,7 @@ impl<K: Eq + Clone + Drop, V: Copy + Drop, F: Fit<K, V>> Core<K, V, F> {
         ensures never_stale { IfErr result (λ e. e ≢ Refusal.Stale) }
         ensures charged { IfOk result
             (λ place. Charges charge place state.old.seats state.new.seats) }
+        ensures refused { IfErr result (λ _. AddsVacant state.old.seats state.new.seats) }
     {
         let hold = self.hold_entry(state, tag, key, charge, value, None, true)?;
         state.makings.invalidate(key);
@@ -179,7 +181,8 @@ impl<K: Eq + Clone + Drop, V: Copy + Drop, F: Fit<K, V>> Core<K, V, F> {
     /// this call if there is none, and returns a hold of the entry. If the index is not to have the
     /// entry, it is already invalidated, and only this caller gets it.
     ///
-    /// Returns `Memory` and `Overflow` as `hold_new` does.
+    /// Returns `Memory` and `Overflow` as `hold_new` does. No entry has changed then.
+    #[tactic(auto, using(crate::proofs::Seating::Vacant::nothing_added))]
     pub(crate) fn hold_entry(
         &self,
         state: &mut ShardState<K>,
@@ -194,6 +197,7 @@ impl<K: Eq + Clone + Drop, V: Copy + Drop, F: Fit<K, V>> Core<K, V, F> {
         ensures never_stale { IfErr result (λ e. e ≢ Refusal.Stale) }
         ensures charged { IfOk result
             (λ place. Charges charge place state.old.seats state.new.seats) }
+        ensures refused { IfErr result (λ _. AddsVacant state.old.seats state.new.seats) }
         ensures makings { state.new.makings ≡ state.old.makings }
     {
         let kept = self.new_entry(key, value)?;
