@@ -706,18 +706,19 @@ bool lru_chain_is_empty(lru_chain *chain);
  * for a key does not find its entry, and may add a second one; nothing worse happens.
  *
  * Less is proved of these calls than of the others: that a call on a handle that is not open
- * changes nothing, that at most one entry leaves in a make_room, release_and_evict, collect, prune
- * or erase, and none unless LRU_GONE is told, that none leaves while its slot counts a pin, that a
- * strict add or ready stores nothing that would take the total above the capacity, and is told
- * LRU_FULL for no other reason, that an add or an insert that is refused changes no entry, that the
- * total has grown by the charge after an insert that stores its value, less that of the entry that
- * left, and is within the capacity after a strict one, that the index has no entry of a key after it was erased,
- * that nobody is told LRU_MAKE while a caller makes the value of the key, unless it was erased,
- * added or inserted meanwhile, and that a ticket is accepted only while its making goes on, and
- * ends it. That at most one entry leaves in any other call, that a look-up counts its pin, and
- * finds the entry that the index has, that each value is told to leave once, that an insert
- * replaces the key's entry, that no ticket is told twice, and that nobody finds a value that was
- * made for an erased key, is tested.
+ * changes nothing, that a hit by a place tells that place, that at most one entry leaves in a
+ * make_room, release_and_evict, collect, prune or erase, and none unless LRU_GONE is told, that
+ * none leaves while its slot counts a pin, that a strict add or ready stores nothing that would
+ * take the total above the capacity, and is told LRU_FULL for no other reason, that an add or an
+ * insert that is refused changes no entry, that the total has grown by the charge after an insert
+ * that stores its value, less that of the entry that left, and is within the capacity after a
+ * strict one, that the index has no entry of a key after it was erased, that nobody is told
+ * LRU_MAKE while a caller makes the value of the key, unless it was erased, added or inserted
+ * meanwhile, and that a ticket is accepted only while its making goes on, and ends it. That at most
+ * one entry leaves in any other call, that a look-up counts its pin, and finds the entry that the
+ * index has, that each value is told to leave once, that an insert replaces the key's entry, that
+ * no ticket is told twice, and that nobody finds a value that was made for an erased key, is
+ * tested.
  *
  * Giving a pin back evicts nothing. If pinned entries keep the total above the capacity, whoever
  * gives back the last pin of one is told LRU_ABOVE. To have the total down at once, take the mutex

@@ -44,6 +44,10 @@ tag_of hash = hash / 2 ^ 32
 abbrev pub IsLookup : LruFound → Type 0
 IsLookup t = (t.code ≡ code.hit) ⊎ (t ≡ bare_found code.missed) ⊎ (t ≡ bare_found code.overflow)
 
+-- The same, of whatever entry is at a place, which is told.
+abbrev pub IsLookupAt : ℕ → LruFound → Type 0
+IsLookupAt p t = ((t.code ≡ code.hit) × (t.place ≡ p)) ⊎ (t ≡ bare_found code.missed) ⊎ (t ≡ bare_found code.overflow)
+
 -- The answer of a call that was refused for want of memory, or since a number would overflow.
 abbrev pub IsRefused : LruFound → Type 0
 IsRefused t = (t ≡ bare_found code.memory) ⊎ (t ≡ bare_found code.overflow)

@@ -1,9 +1,9 @@
 //! The calls of C on clocks and readers.
 ghost use Rattle.std.specs.Prelude.{◌≡◌, ◌==◌, ⊤, None, MatchBool, MatchOption};
 ghost use Rattle.lru_c.specs.Clocks.{bare_found, found, number_of, Adds, AreCounts, BeginsMaking};
-ghost use Rattle.lru_c.specs.Clocks.{Erases, Fails, Frees, IsLookup, IsNewClock, IsRelease};
-ghost use Rattle.lru_c.specs.Clocks.{LeavesAt, LeavesOne, OnClock, OnReader, Readies, ReleasesAt};
-ghost use Rattle.lru_c.specs.Clocks.{Reserves, StoresOver, WritesLeft};
+ghost use Rattle.lru_c.specs.Clocks.{Erases, Fails, Frees, IsLookup, IsLookupAt, IsNewClock};
+ghost use Rattle.lru_c.specs.Clocks.{IsRelease, LeavesAt, LeavesOne, OnClock, OnReader, Readies};
+ghost use Rattle.lru_c.specs.Clocks.{ReleasesAt, Reserves, StoresOver, WritesLeft};
 ghost use Rattle.lru_c.specs.Codes as codes;
 ghost use Rattle.lru_c.specs.Opened.{Opens};
 ghost use Rattle.lru_c.specs.WordsCalls.{words};
@@ -127,7 +127,7 @@ pub extern "C" fn lru_reader_pin(
 #[unsafe(no_mangle)]
 pub extern "C" fn lru_reader_pin_at(reader: &mut LruReader, place: u32) -> LruFound
     ensures { OnReader reader.old.reader.held (result ≡ bare_found codes.closed)
-        reader.new.reader.held (IsLookup result) }
+        reader.new.reader.held (IsLookupAt place result) }
 {
     match reader.get_mut() {
         Some(reader) => reader.pin_at(place),

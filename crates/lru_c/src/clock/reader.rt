@@ -1,6 +1,7 @@
 //! What the handle of a reader leads to.
-ghost use Rattle.std.specs.Prelude.{◌≡◌};
-ghost use Rattle.lru_c.specs.Clocks.{IsLookup, IsRelease};
+ghost use Rattle.std.specs.Prelude.{◌≡◌, MatchOption, MatchResult};
+ghost use Rattle.lru_c.specs.Clocks.{bare_found, IsLookup, IsLookupAt, IsRelease};
+ghost use Rattle.lru_c.specs.Codes as codes;
 
 use crate::clock::told::LruFound;
 use crate::clock::{Entries, tag_of};
@@ -32,7 +33,7 @@ impl Reader {
 
     // Pins whatever entry is at a place.
     pub(crate) fn pin_at(&self, place: u32) -> LruFound
-        ensures { IsLookup result }
+        ensures { IsLookupAt place result }
     {
         told_of_lookup(self.entries.hold_at(place))
     }
@@ -61,7 +62,11 @@ impl Reader {
 // Returns the answer of a lookup with this result, whose one refusal is `Overflow`.
 #[inline(always)]
 pub(crate) fn told_of_lookup(found: Result<Option<(HoldAt, u64)>, Refusal>) -> LruFound
-    ensures { IsLookup result }
+    ensures lookup { IsLookup result }
+    ensures told { MatchResult found (λ found. MatchOption found
+        (result ≡ bare_found codes.missed)
+        (λ held. (result.code ≡ codes.hit) × (result.place ≡ held.0)))
+        (λ _. result ≡ bare_found codes.overflow) }
 {
     match found {
         Ok(Some((hold, value))) => LruFound::lent(code::HIT, value, hold),

@@ -1,6 +1,6 @@
 //! Holds of entries: lookups without the lock by callers that cannot keep a pin. Each hold is
 //! returned as a debt (`HoldAt`), which a caller in C then has as a number.
-ghost use Rattle.std.specs.Prelude.{◌≡◌, ◌≢◌, false, None, IfErr, IfOk, MatchOption};
+ghost use Rattle.std.specs.Prelude.{◌≡◌, ◌≢◌, false, None, IfErr, IfOk, IfSome, MatchOption};
 ghost use Rattle.std.specs.List.{list_any};
 ghost use Rattle.std.proofs.Math.ListN.{set};
 ghost use Rattle.lru_clock.specs.Makings.{is_of};
@@ -72,7 +72,8 @@ impl<K: Eq + Clone + Drop, V: Copy + Drop, F: Fit<K, V>> Core<K, V, F> {
     ///
     /// Returns `Overflow` if the entry has the maximum number of holds or pins.
     pub fn hold_at(&self, place: u32) -> Result<Option<(HoldAt, V)>, Refusal>
-        ensures { IfErr result (λ e. e ≡ Refusal.Overflow) }
+        ensures place { IfOk result (λ found. IfSome found (λ held. held.0 ≡ place)) }
+        ensures refused { IfErr result (λ e. e ≡ Refusal.Overflow) }
     {
         match self.store.slot(place) {
             Some(slot) => slot.hold_any(place),

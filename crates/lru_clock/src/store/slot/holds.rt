@@ -317,6 +317,7 @@ impl<K: Eq + Drop, V: Copy + Drop, F: Fit<K, V>> Slot<K, V, F> {
     #[inline(always)]
     fn with_value(&self, hold: HoldAt, value: Option<V>) -> Option<(HoldAt, V)>
         requires { place_of self.now.spot.value ≡ hold }
+        ensures { IfSome result (λ held. held.0 ≡ hold) }
     {
         match value {
             Some(value) => Some((hold, value)),
@@ -333,7 +334,8 @@ impl<K: Eq + Drop, V: Copy + Drop, F: Fit<K, V>> Slot<K, V, F> {
     /// Returns `Overflow` if the entry has the maximum number of holds or pins.
     pub fn hold_any(&self, place: u32) -> Result<Option<(HoldAt, V)>, Refusal>
         requires { place_of self.now.spot.value ≡ place }
-        ensures { IfErr result (λ e. e ≡ Refusal.Overflow) }
+        ensures place { IfOk result (λ found. IfSome found (λ held. held.0 ≡ place)) }
+        ensures refused { IfErr result (λ e. e ≡ Refusal.Overflow) }
     {
         let mut seen = self.cell.load();
         for _ in 0..u64::MAX {
