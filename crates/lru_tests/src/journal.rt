@@ -8,3 +8,4 @@ mod owner;
 mod records;
 mod seeded;
 mod threads;
+mod told;

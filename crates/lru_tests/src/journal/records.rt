@@ -25,6 +25,8 @@ fn kinds(alloc: Global) -> Result<Vec<Record<u64>>, AllocError> {
         record(Recorded::BeginStrictly(7, 3), Told::Make(2)),
         record(Recorded::Poll(1), Told::Hit(1)),
         record(Recorded::Ready(2), Told::Done),
+        record(Recorded::ReadyWith(2, 18446744073709551615), Told::Done),
+        record(Recorded::ReadyWithStrictly(5, 2), Told::Done),
         record(Recorded::Fail(3), Told::Left),
         record(Recorded::Fail(4), Told::Removed),
         record(Recorded::Get(8), Told::Found(5)),
@@ -51,6 +53,8 @@ fn each_kind_of_record_has_its_text(rt: HostRuntime) {
         begin_strictly 7 3 -> make 2\n\
         poll 1 -> hit 1\n\
         ready 2 -> done\n\
+        ready_with 2 18446744073709551615 -> done\n\
+        ready_with_strictly 5 2 -> done\n\
         fail 3 -> left\n\
         fail 4 -> removed\n\
         get 8 -> some 5\n\
