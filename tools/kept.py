@@ -5,7 +5,8 @@
 
 A PATH is a file or a folder of the repository that the command reads. The records are in
 ~/.cache/concurrent_lru, or in $XDG_CACHE_HOME/concurrent_lru, by the name and by a checksum of the
-files, the command, the text and the kit; without them, everything runs again.
+files, the command, the text and the kit; without them, everything runs again. There is no record of
+a command that has printed "left out:", as one does for each part of it that could not run here.
 """
 import hashlib
 import os
@@ -38,6 +39,17 @@ def checksum(paths, *texts):
     return found.hexdigest()
 
 
+def run(command):
+    """Runs a command. Returns its exit status, and whether what it printed says "left out:"."""
+    has_left_out = False
+    with subprocess.Popen(command, cwd=TOP, stdout=subprocess.PIPE) as running:
+        for line in running.stdout:
+            sys.stdout.buffer.write(line)
+            sys.stdout.buffer.flush()
+            has_left_out |= b"left out:" in line
+    return running.returncode, has_left_out
+
+
 def main():
     words = sys.argv[1:]
     if "--" not in words or words[0].startswith("-"):
@@ -51,8 +63,8 @@ def main():
     if record.exists():
         print(f"{name}: passed on this machine before, with the same files")
         return 0
-    status = subprocess.run(command, cwd=TOP).returncode
-    if not status:
+    status, has_left_out = run(command)
+    if not status and not has_left_out:
         RECORDS.mkdir(parents=True, exist_ok=True)
         record.touch()
     return status
