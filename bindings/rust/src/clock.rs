@@ -275,6 +275,20 @@ impl<K: WordsKey + ?Sized, V> Cache<K, V> {
         }
     }
 
+    /// Does what [`get`](Self::get) does. This is its name in the caches in Rattle.
+    ///
+    /// # Errors
+    ///
+    /// As [`get`](Self::get).
+    #[inline]
+    pub fn find<Q>(&self, key: &Q) -> Result<Option<CacheHandle<'_, K, V>>, Refusal>
+    where
+        K: Borrow<Q>,
+        Q: WordsKey<Form = K::Form> + ?Sized,
+    {
+        self.get(key)
+    }
+
     /// Calls `reader` with the key's value, and returns its result, or `None` if there is no value
     /// or it is still being made. No lock is held meanwhile: this is a [`get`](Self::get) whose
     /// handle is dropped at the end.

@@ -24,9 +24,9 @@
 //! - A charge must be above 0, even if the key has a value.
 //! - A number of shards is a [`NonZeroUsize`](std::num::NonZeroUsize), and a small capacity is
 //!   divided among fewer than 16 shards ([`sharded::shards_for`]).
-//! - It has more calls: `insert`, `invalidate`, `clear`, `retain`, `read`, `contains`, `len`,
-//!   `pinned_charge`, `capacity`, `set_capacity`, `set_strict_limit`, `is_limit_strict`, `reserve`,
-//!   `shrink_to_fit`, `for_each`, `stats`, `with_listener`, and those that return an
+//! - It has more calls: `insert`, `invalidate`, `clear`, `retain`, `find`, `read`, `contains`,
+//!   `len`, `pinned_charge`, `capacity`, `set_capacity`, `set_strict_limit`, `is_limit_strict`,
+//!   `reserve`, `shrink_to_fit`, `for_each`, `stats`, `with_listener`, and those that return an
 //!   [`unsharded::OwnedHandle`], a handle that keeps its cache alive. Handles have `try_clone` and
 //!   `release_and_evict`.
 //! - `begin` and `try_begin` return a handle or an [`unsharded::Maker`], a guard of the making.

@@ -335,6 +335,20 @@ impl<K: Key + ?Sized, V, S: BuildHasher> LruCache<K, V, S> {
         Ok(found.map(CacheHandle))
     }
 
+    /// Does what [`get`](Self::get) does. This is its name in the caches in Rattle.
+    ///
+    /// # Errors
+    ///
+    /// As [`get`](Self::get).
+    #[inline]
+    pub fn find<Q>(&self, key: &Q) -> Result<Option<CacheHandle<'_, K, V>>, Refusal>
+    where
+        K: Borrow<Q>,
+        Q: Key<Form = K::Form> + Hash + ?Sized,
+    {
+        self.get(key)
+    }
+
     /// Calls `reader` with the key's value, and returns its result, or `None` if there is no value
     /// or it is still being made. Does not wait. The lock of the shard is held meanwhile, so
     /// `reader` must not call the cache or drop a handle of it.

@@ -289,6 +289,20 @@ impl<K: Key + ?Sized, V> LruCache<K, V> {
         Ok(found.map(|(pin, value)| self.handle(pin, value)))
     }
 
+    /// Does what [`get`](Self::get) does. This is its name in the caches in Rattle.
+    ///
+    /// # Errors
+    ///
+    /// As [`get`](Self::get).
+    #[inline]
+    pub fn find<Q>(&self, key: &Q) -> Result<Option<CacheHandle<'_, K, V>>, Refusal>
+    where
+        K: Borrow<Q>,
+        Q: Key<Form = K::Form> + ?Sized,
+    {
+        self.get(key)
+    }
+
     /// Calls `reader` with the key's value, and returns its result, or `None` if there is no value
     /// or it is still being made. Does not wait.
     ///

@@ -81,10 +81,12 @@ fn a_value_is_found_by_its_key_alone() -> Result<(), Refusal> {
     }
     for key in 0..500 {
         assert_eq!(*cache.get(&key)?.expect("it has room"), key.to_string());
+        assert_eq!(*cache.find(&key)?.expect("it has room"), key.to_string());
         assert!(cache.contains(&key)?);
     }
     for key in 500..1000 {
         assert!(cache.get(&key)?.is_none() && !cache.contains(&key)?);
+        assert!(cache.find(&key)?.is_none());
     }
     assert_eq!((cache.len(), cache.total_charge()), (500, 500));
     Ok(())

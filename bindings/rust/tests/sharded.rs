@@ -147,9 +147,9 @@ fn calls_reach_the_shard_of_their_key() -> Result<(), GetError<()>> {
     for number in 0..100usize {
         let key = format!("key {number}");
         assert_eq!(*cache.insert(key.as_str(), 1, number)?, number);
-        assert_eq!(cache.get(key.as_str())?.as_deref(), Some(&number));
+        assert_eq!(cache.find(key.as_str())?.as_deref(), Some(&number));
         cache.invalidate(key.as_str())?;
-        assert!(cache.get(key.as_str())?.is_none());
+        assert!(cache.find(key.as_str())?.is_none());
     }
     assert_eq!(cache.total_charge(), 0);
     let failed = cache.get_or_try_init("none", 1, |_| Err(())).err();

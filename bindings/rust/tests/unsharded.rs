@@ -768,9 +768,11 @@ fn keys_of_every_form() -> Result<(), Refusal> {
         let cache = LruCache::<K, &str>::new(10).unwrap();
         cache.get_or_init(one, 1, |_| "one").unwrap();
         assert!(cache.get(other).unwrap().is_none());
+        assert!(cache.find(other).unwrap().is_none());
         cache.get_or_init(other, 1, |_| "other").unwrap();
         assert_eq!(cache.get(one).unwrap().as_deref(), Some(&"one"));
         assert_eq!(cache.get(other).unwrap().as_deref(), Some(&"other"));
+        assert_eq!(cache.find(other).unwrap().as_deref(), Some(&"other"));
     }
 
     serves::<String, str>("", "a");
