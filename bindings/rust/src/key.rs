@@ -26,14 +26,14 @@ use crate::form::{self, pair};
 ///
 /// These types are keys:
 ///
-/// - Integers, `char`, `bool`, [`Ipv4Addr`], [`Ipv6Addr`], [`SocketAddrV4`] and [`Duration`], and
-///   pairs of those that have at most 64 bits. They are written as words, which are faster to look
-///   up.
+/// - Integers, `char`, `bool`, [`Ipv4Addr`], [`Ipv6Addr`], [`SocketAddrV4`] and [`Duration`], pairs
+///   of those that have at most 64 bits, and `[u64; 2]`. They are written as words, which are faster
+///   to look up.
 /// - Strings, and slices and arrays of bytes. They are written as bytes, which the cache copies for
 ///   each entry that it makes.
 /// - Paths, [`IpAddr`], [`SocketAddr`], [`SocketAddrV6`], an [`Option`] of a key, all other pairs
 ///   of keys, such as `(String, u64)`, any three or four keys, and arrays of integers, strings and
-///   pairs. Their bytes are put together in each call.
+///   pairs; of `u64`, those of at most eight. Their bytes are put together in each call.
 /// - References to keys, and keys in a [`Box`], an [`Arc`], an [`Rc`] or a [`Cow`].
 ///
 /// # Examples
@@ -107,8 +107,8 @@ pub trait Key {
 /// each [`Key`] whose form is [`Word`] or [`Words`].
 ///
 /// These are integers, `char`, `bool`, [`Ipv4Addr`], [`Ipv6Addr`], [`SocketAddrV4`] and
-/// [`Duration`], pairs of those that have at most 64 bits, and types of your own that are written
-/// as words. Strings and other keys that are written as bytes are not.
+/// [`Duration`], pairs of those that have at most 64 bits, `[u64; 2]`, and types of your own that
+/// are written as words. Strings and other keys that are written as bytes are not.
 pub trait WordsKey: Key {
     /// Returns the words of this key.
     fn words(&self) -> [u64; 2];
@@ -354,17 +354,24 @@ fn append<K: Key>(key: &K, bytes: &mut Vec<u8>) {
     form::append::<K::Form>(&key.written(), bytes);
 }
 
-/// Arrays of these types. Those of bytes, and of two `u64`, have forms of their own.
+/// Implements `written` for an array.
+macro_rules! written_item_by_item {
+    () => {
+        type Form = CowBytes;
+
+        fn written(&self) -> Cow<'_, [u8]> {
+            let mut bytes = Vec::new();
+            self.iter().for_each(|key| append(key, &mut bytes));
+            bytes.into()
+        }
+    };
+}
+
+/// Arrays of these types, of any length. Those of bytes have a form of their own.
 macro_rules! arrays_of {
     ($([$($parameter:tt)*] $key:ty;)*) => {$(
         impl<$($parameter)* const N: usize> Key for [$key; N] {
-            type Form = CowBytes;
-
-            fn written(&self) -> Cow<'_, [u8]> {
-                let mut bytes = Vec::new();
-                self.iter().for_each(|key| append(key, &mut bytes));
-                bytes.into()
-            }
+            written_item_by_item!();
         }
     )*};
 }
@@ -388,6 +395,17 @@ arrays_of! {
     [K: Key + ?Sized,] Arc<K>;
     [A: Key, B: Key,] (A, B);
 }
+
+/// Arrays of `u64` of these lengths. Those of two are written as words.
+macro_rules! arrays_of_words {
+    ($($length:literal)*) => {$(
+        impl Key for [u64; $length] {
+            written_item_by_item!();
+        }
+    )*};
+}
+
+arrays_of_words!(1 3 4 5 6 7 8);
 
 impl<A: Key, B: Key, C: Key> Key for (A, B, C) {
     written_one_after_another!(0 1 2);

@@ -899,6 +899,13 @@ fn keys_of_several_parts() -> Result<(), Refusal> {
     all_differ(&[[1_u32, 2, 3], [3, 2, 1], [1, 2, 4]])?;
     all_differ(&[["a", "b"], ["ab", ""], ["", "ab"]])?;
     all_differ(&[[-1_i64; 2], [1; 2], [-1, 1]])?;
+    all_differ(&[[0_u64], [1], [1 << 63]])?;
+    all_differ(&[[1_u64, 2, 3], [3, 2, 1], [1, 2, 4], [1, 2 << 32, 3]])?;
+    all_differ(&[
+        ([0_u64; 5], [0_u64; 6], [0_u64; 7]),
+        ([0; 5], [0; 6], [1; 7]),
+    ])?;
+    all_differ(&[[0_u64; 8], [1; 8], [0, 0, 0, 0, 0, 0, 0, 1]])?;
     all_differ(&[[(1_u8, "a"), (2, "b")], [(1, "b"), (2, "a")]])
 }
 
@@ -928,6 +935,8 @@ fn pairs_of_words_are_words() {
     assert_eq!((7_u8, -1_i64).written(), [7, u64::MAX]);
     assert_eq!((User(7), 8_u32).written(), [7, 8]);
     assert_eq!(7_u16.written(), [0, 7]);
+    assert_eq!([7_u64, 8].written(), [7, 8]);
+    assert_eq!([7_u64; 4].written(), [7_usize; 4].written());
     let triple = ("a", 1_u8, "b").written();
     let pair = (("a", 1_u8), "b").written();
     assert!(triple.len() < pair.len());
