@@ -1,8 +1,8 @@
 /* Tests the clock of lru.h: what each call answers, with one thread; that nothing is lost where
  * memory is refused; that each value is deleted once, and none while it is pinned, while eight
- * threads look up, add, insert and erase; and that each key has one maker at a time, whose value
- * the others get, while eight threads make, fail and erase. Prints each failure, and exits with 1
- * if there is any.
+ * threads look up, pin once more, add, insert and erase; and that each key has one maker at a time,
+ * whose value the others get, while eight threads make, fail and erase. Prints each failure, and
+ * exits with 1 if there is any.
  *
  * The linker puts the functions below before those of the C library (--wrap). */
 #include <inttypes.h>
@@ -800,6 +800,20 @@ static lru_code use(lru_reader *reader, lru_found found, uint64_t key) {
     return unpinned;
 }
 
+static atomic_uint repins;
+
+/* Takes another pin of an entry that is pinned, perhaps erased by now, and gives both back. */
+static void use_twice(lru_reader *reader, lru_found found, uint64_t key) {
+    lru_found again = lru_reader_pin_at(reader, found.place);
+    CHECK(again.code, LRU_HIT);
+    CHECK(again.place, found.place);
+    CHECK(again.value, found.value);
+    /* the other pin stays, so this is not the last one */
+    CHECK(use(reader, again, key), LRU_DONE);
+    use(reader, found, key);
+    repins++;
+}
+
 static void insert(lru_reader *reader, uint64_t key) {
     lru_left kept[KEYS];
     lru_found found;
@@ -865,10 +879,12 @@ static void *run(void *from) {
             continue;
         }
         found = lru_reader_pin(&reader, hash_of(key), key, ~key);
-        if (found.code == LRU_HIT)
-            use(&reader, found, key);
-        else
+        if (found.code != LRU_HIT)
             insert(&reader, key);
+        else if ((random >> 55) % 16 < 4)
+            use_twice(&reader, found, key);
+        else
+            use(&reader, found, key);
     }
     CHECK(lru_reader_free(&reader), LRU_DONE);
     return NULL;
@@ -997,8 +1013,9 @@ int main(void) {
     test_threads(UINT64_MAX, run_makers);
     if (failures > 0)
         return 1;
-    printf("clock: %u requests for memory refused; %u values made, and each deleted once; %u waits "
-           "for a maker, and %u values for their makers alone\n",
-           refusals, (unsigned)next_object, (unsigned)waits, (unsigned)lone_values);
+    printf("clock: %u requests for memory refused; %u values made, and each deleted once; %u pins "
+           "of a pinned entry, %u waits for a maker, and %u values for their makers alone\n",
+           refusals, (unsigned)next_object, (unsigned)repins, (unsigned)waits,
+           (unsigned)lone_values);
     return 0;
 }
