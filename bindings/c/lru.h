@@ -31,7 +31,8 @@
  *     lru_chain_*   calls on a chain, which takes entries of any cache
  *     lru_clock_*   calls on a clock, another cache, whose hits take no lock (THE CLOCK, below):
  *                   those that change it or look at all of it, under a mutex of its own
- *     lru_reader_*  calls on a clock without that mutex, by a thread that has a reader of it
+ *     lru_reader_*  calls on a clock without that mutex, by a thread that has a reader of it; only
+ *                   lru_reader_new, which opens one, is called under it
  *
  * The library is proved: each call on a cache is one step of the cache that docs/DEFINITIONS.md in
  * the sources defines, or is refused with a code and changes nothing; of the clock less is proved.
@@ -666,12 +667,16 @@ bool lru_chain_is_empty(lru_chain *chain);
  *     } while (found.code == LRU_GONE);
  *
  * Threads that miss the same key at once can leave its value to one of them, the maker. It holds no
- * mutex while it makes the value, and the others wait, here for a condition variable:
+ * mutex while it makes the value, and the others wait, here for a condition variable. `waiting` is
+ * how many wait for any key, so that the maker wakes nobody if there are none; lru_threads_clock.h
+ * knows of each key whether somebody waits for it:
  *
  *     pthread_mutex_lock(&mutex);
  *     found = lru_clock_begin(&clock, hash, first, second, charge);
  *     while (found.code == LRU_WAIT) {
+ *         waiting++;
  *         pthread_cond_wait(&ended, &mutex);
+ *         waiting--;
  *         found = lru_clock_begin(&clock, hash, first, second, charge);
  *     }
  *     if (found.code == LRU_MAKE) {
@@ -686,7 +691,8 @@ bool lru_chain_is_empty(lru_chain *chain);
  *         } else {
  *             lru_clock_fail(&clock, ticket);
  *         }
- *         pthread_cond_broadcast(&ended);
+ *         if (waiting > 0)
+ *             pthread_cond_broadcast(&ended);
  *     }
  *     pthread_mutex_unlock(&mutex);
  *
