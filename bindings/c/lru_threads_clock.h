@@ -19,9 +19,11 @@
  * Keys, values, charges, shards and what the caller must ensure are as lru_threads.h has them. This
  * differs:
  *
- *  - A call that finds a value takes no lock, nor does a release, unless a value has to leave. So
- *    threads that mostly hit do not wait for each other, and one shard serves their hits as well as
- *    many. With several, those that miss contend less.
+ *  - A call that finds a value takes no lock, nor does a release, unless a value has to leave. One
+ *    that finds none takes the lock of the shard and looks again, as it may miss a value that is
+ *    there while another thread changes the shard. So threads that mostly hit do not wait for each
+ *    other, and one shard serves their hits as well as many. With several, those that miss contend
+ *    less.
  *  - Values are evicted in about the order of their last uses, and not exactly: THE CLOCK of lru.h
  *    says how.
  *  - A value counts once it has been made: others are evicted for it then, and not before it is

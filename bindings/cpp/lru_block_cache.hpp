@@ -39,7 +39,8 @@ struct BlockCacheOptions {
   std::size_t typical_charge = 0;
 
   // Whether each entry also counts about as many bytes as the cache itself takes for it: 224 under
-  // LevelDB and 240 under RocksDB with keys of two words, and more with keys of bytes.
+  // LevelDB and 240 under RocksDB with keys of two words, and more with keys of bytes; 202 in a
+  // cache over the clock.
   bool charges_metadata = false;
 };
 

@@ -1,4 +1,6 @@
-// A cache that threads share, whose hits take no lock, built on the clock of lru.h.
+// A cache that threads share, whose hits take no lock, built on the clock of lru.h. A look-up that
+// finds nothing takes the lock of its shard and looks again, as it may miss a value that is there
+// while another thread changes the shard.
 //
 //   lru::ClockCache<Page, std::uint64_t> cache(1000);
 //   auto page = cache.get_or_init(7, 1, [](std::uint64_t number) { return Page(number); });
@@ -267,9 +269,10 @@ struct ClockBegun {
 // The head of this file says what it has less than a ShardedCache. All members may be called from
 // any thread at any time, except the constructor and the destructor.
 //
-// A hit takes no lock, nor does the end of its handle: each thread finds values by readers of its
-// own. They are made by its first call on each shard, and stay for a later thread when it ends. A
-// thread for which there is no memory for them takes the lock of the shard instead.
+// A hit takes no lock, nor does the end of its handle, unless a value has to leave: each thread
+// finds values by readers of its own. They are made by its first call on each shard, and stay for a
+// later thread when it ends. A thread for which there is no memory for them takes the lock of the
+// shard instead.
 //
 // No lock is held while `init` makes a value or a value is deleted. So both may take long, and may
 // call the cache. But `init` must not ask for the key whose value it makes, and must not wait for
@@ -564,7 +567,7 @@ class alignas(64) ClockCache {
 
   // The total of the charges of the values that have a handle, or 2^64 - 1 if it is more. No
   // snapshot, as `len`. Takes time in proportion to the greatest number of values that there were
-  // at once.
+  // at once, or that were reserved.
   std::uint64_t pinned_charge() const {
     return shards_.sum([](Shard& shard) { return shard.pinned_charge(); });
   }

@@ -20,7 +20,8 @@
 // low_pri_pool_ratio are 0) and charges no metadata (kDontChargeCacheMetadata). The differences:
 //
 //  - Priorities are accepted and not distinguished. docs/EMBEDDING.md has what a database misses
-//    without them; the cache of rocksdb_clock_cache.h misses less than RocksDB's own with them.
+//    without them in one workload, of reads and scans. There the cache of rocksdb_clock_cache.h
+//    misses less than RocksDB's own with them.
 //  - The memory of the cache itself is charged only with charges_metadata, and not by default.
 //  - A charge of 0 counts as 1, without charges_metadata. A database pins one such entry, for its
 //    statistics.

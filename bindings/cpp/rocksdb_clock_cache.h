@@ -32,7 +32,8 @@
 //  - ApplyToAllEntries holds no mutex while the callback runs: the callback may call the cache, and
 //    other threads are not slowed. It needs no memory.
 //  - GetPinnedUsage visits all entries, as that of HyperClockCache does. GetTableAddressCount
-//    returns the greatest number of entries that there were at once.
+//    returns the sum over all shards of the greatest number of entries that there were at once, or
+//    of those that a typical charge in the options lets expect, if that is more.
 //  - While a table grows, only calls that take the mutex wait.
 //
 // Compared with HyperClockCache: Insert of a key that has an entry replaces that entry, whereas

@@ -1,7 +1,9 @@
 //! A cache whose hits take no lock.
 //!
 //! [`Cache`] has the names of [`sharded::LruCache`](crate::sharded::LruCache), and its threads do
-//! not wait for each other where they find values. It differs in these points:
+//! not wait for each other where they find values. A look-up that finds nothing takes the lock of
+//! its shard and looks again, as it may miss a value that is there while another thread changes the
+//! shard. The cache differs in these points:
 //!
 //! - Values are not evicted in the exact order of their last uses. A new one is on trial, and
 //!   leaves unless it is used. The others have up to three chances: a hit adds one, and a hand that

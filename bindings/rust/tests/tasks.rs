@@ -483,7 +483,8 @@ random_tasks!(
     |cache: &sharded::LruCache<u64, Counted>, key| cache.advice_evict(&key).unwrap(),
     |_| {}
 );
-// The end of a handle evicts nothing from a clock.
+// Dropping a last handle of a clock evicts down to the capacity, but not if another thread looks
+// the value up meanwhile.
 random_tasks!(
     random_tasks_share_a_clock,
     clock::Cache::<u64, Counted>::with_shards(3, std::num::NonZeroUsize::new(2).unwrap())?,

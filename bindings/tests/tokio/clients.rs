@@ -197,7 +197,7 @@ async fn all() -> Result<(), Box<dyn Error>> {
             cache,
             clock::Cache<u64, Value>,
             |cache: &clock::Cache<u64, Value>| {
-                // The end of a handle evicts nothing.
+                // A last release evicts nothing if another thread looks the value up meanwhile.
                 cache.set_capacity(CAPACITY);
                 None
             }
