@@ -11,7 +11,8 @@
 // The systems are LevelDB's own cache (leveldb-sharded), the calls of lru.h with keys of two words
 // (c-words) and of bytes (c-bytes), lru::Cache (cpp-unsharded), lru::ShardedCache (cpp-sharded),
 // and, as leveldb::Cache with 16 shards, what lru::NewLevelDBBlockCache (block-exact),
-// lru::NewLevelDBCache (any-exact) and lru::NewLevelDBClockCache (block-clock) make.
+// lru::NewLevelDBCache (any-exact) and lru::NewLevelDBClockCache (block-clock) make. A hit of
+// cpp-unsharded-read and cpp-sharded-read is a call of `read` of the classes.
 #include <cstdint>
 #include <cstdio>
 #include <cstdlib>
@@ -137,13 +138,16 @@ class Calls {
   lru_chain gone_ = {};
 };
 
-// The classes of lru.hpp, whose values are objects on the heap.
-template <class Cache>
+// The classes of lru.hpp, whose values are objects on the heap. With `kReads`, a hit calls `read`.
+template <class Cache, bool kReads = false>
 class Classes {
  public:
   explicit Classes(std::uint64_t capacity) : cache_(capacity) {}
 
-  bool Hit(lru::Words block) { return static_cast<bool>(cache_.get(block)); }
+  bool Hit(lru::Words block) {
+    if constexpr (kReads) return cache_.read(block, [](const Nothing&) {});
+    return static_cast<bool>(cache_.get(block));
+  }
 
   bool Miss(lru::Words block) {
     bool made = false;
@@ -215,21 +219,24 @@ bench::System Made(const char* name, const Work& work, const New& make) {
 
 std::vector<bench::System> SystemsFor(const Work& work) {
   constexpr std::size_t kShards = 16;  // as many as LevelDB's own has, whatever the capacity
-  return {Made("leveldb-sharded", work, [](std::size_t n) { return leveldb::NewLRUCache(n); }),
-          Made<Calls<lru::Words>>("c-words", work),
-          Made<Calls<std::string_view>>("c-bytes", work),
-          Made<Classes<lru::Cache<Nothing, lru::Words>>>("cpp-unsharded", work),
-          Made<Classes<lru::ShardedCache<Nothing, lru::Words>>>("cpp-sharded", work),
-          Made("block-exact", work,
-               [](std::size_t n) { return lru::NewLevelDBBlockCache(n, kShards); }),
-          Made("any-exact", work, [](std::size_t n) { return lru::NewLevelDBCache(n, kShards); }),
-          Made("block-clock", work, [](std::size_t n) {
-            lru::BlockCacheOptions options;
-            options.capacity = n;
-            options.shards = kShards;
-            options.typical_charge = 1;
-            return lru::NewLevelDBClockCache(options);
-          })};
+  using One = lru::Cache<Nothing, lru::Words>;
+  using Sharded = lru::ShardedCache<Nothing, lru::Words>;
+  std::vector<bench::System> systems = {
+      Made("leveldb-sharded", work, [](std::size_t n) { return leveldb::NewLRUCache(n); }),
+      Made<Calls<lru::Words>>("c-words", work),
+      Made<Calls<std::string_view>>("c-bytes", work),
+      Made<Classes<One>>("cpp-unsharded", work),
+      Made<Classes<Sharded>>("cpp-sharded", work),
+      Made("block-exact", work,
+           [](std::size_t n) { return lru::NewLevelDBBlockCache(n, kShards); }),
+      Made("any-exact", work, [](std::size_t n) { return lru::NewLevelDBCache(n, kShards); }),
+      Made("block-clock", work,
+           [](std::size_t n) { return lru::NewLevelDBClockCache(n, kShards); })};
+  if (work.kind == Kind::kHits) {
+    systems.push_back(Made<Classes<One, true>>("cpp-unsharded-read", work));
+    systems.push_back(Made<Classes<Sharded, true>>("cpp-sharded-read", work));
+  }
+  return systems;
 }
 
 }  // namespace

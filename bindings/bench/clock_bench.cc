@@ -9,10 +9,11 @@
 //   clock_bench count_misses SYSTEM ENTRIES MISSES  the same with misses, each of which adds an
 //                                                   entry and evicts another one
 //
-// The systems are the calls of lru.h on clocks and mutexes (c-clock), lru::ClockCache (cpp-clock),
-// lru::ShardedCache (cpp-sharded), and as rocksdb::Cache what lru::NewRocksDBClockCache makes
-// (block-clock), lru::NewRocksDBBlockCache (block-exact), RocksDB's HyperClockCache (rocksdb-hyper)
-// and its LRUCache (rocksdb-sharded).
+// The systems are the calls of lru.h on clocks with mutexes as in lru_threads_clock.h (c-clock),
+// lru::ClockCache (cpp-clock), lru::ShardedCache (cpp-sharded), and as rocksdb::Cache what
+// lru::NewRocksDBClockCache makes (block-clock), lru::NewRocksDBBlockCache (block-exact), RocksDB's
+// HyperClockCache (rocksdb-hyper) and its LRUCache (rocksdb-sharded). HyperClockCache is told how
+// many entries there will be, as it has one table that does not grow; the tables of all others do.
 //
 // read_mostly_16: keys of 200,000, drawn by Zipf's law with the exponent 0.99, on a cache that has
 // room for 100,000. First one thread asks for each of 2^20 drawn keys, which fills the cache. Then
@@ -43,6 +44,7 @@
 #include "lru.h"
 #include "lru.hpp"
 #include "lru_clock.hpp"
+#include "lru_core.hpp"
 #include "pairs.hpp"
 
 #if __has_include("rocksdb/cache.h")
@@ -147,7 +149,7 @@ class Classes {
 
 class CCalls {
   struct alignas(64) Shard {
-    std::mutex mutex;
+    lru::detail::Mutex mutex;
     lru_clock clock = {};
   };
 
@@ -174,7 +176,7 @@ class CCalls {
    public:
     explicit Caller(CCalls* cache) : shards_(cache->shards_) {
       for (std::size_t n = 0; n < kShards; n++) {
-        const std::lock_guard<std::mutex> lock(shards_[n].mutex);
+        const std::lock_guard<lru::detail::Mutex> lock(shards_[n].mutex);
         if (lru_reader_new(&shards_[n].clock, &readers_[n]) != LRU_DONE) std::exit(1);
       }
     }
@@ -205,7 +207,7 @@ class CCalls {
       std::uint64_t out = 0;
       lru_found found;
       {
-        const std::lock_guard<std::mutex> lock(shard->mutex);
+        const std::lock_guard<lru::detail::Mutex> lock(shard->mutex);
         lru_left left;
         while (lru_clock_make_room(&shard->clock, 1, &left) == LRU_GONE) {
           Delete(std::exchange(out, left.value));
@@ -249,7 +251,6 @@ lru::RocksDBCacheOptions OptionsFor(std::size_t capacity) {
   lru::RocksDBCacheOptions options;
   options.capacity = capacity;
   options.shards = kShards;
-  options.typical_charge = 1;
   return options;
 }
 
