@@ -1,14 +1,14 @@
-//! Compares a hit, with the drop of what it returns, of the caches of this crate with one of
-//! Debian's crate `lru` in a `Mutex`, whose values are cloned `Arc`s: among 1,000 and 100,000
-//! entries, with one thread and with four, by pairs of runs, since a machine that is shared has
-//! slow minutes.
+//! Compares a hit, with the drop of what it returns, and a hit by `read`, of the caches of this
+//! crate with a hit of Debian's crate `lru` in a `Mutex`, whose values are cloned `Arc`s: among
+//! 1,000 and 100,000 entries, with one thread and with four, by pairs of runs, since a machine that
+//! is shared has slow minutes.
 //!
 //! `clock_bench [ROUNDS]`: by default 301. Rounds are short, so that some are not interrupted.
 //!
-//! Prints for each cache the median of the nanoseconds that a call takes on its thread, as
-//! `NAME get ENTRIES THREADS NANOSECONDS`, and for those of this crate the median of their ratios,
-//! each of a time and the mean of the other's before and after it, and between which ratios half of
-//! them lie.
+//! Prints for each cache and call the median of the nanoseconds that it takes on its thread, as
+//! `NAME get ENTRIES THREADS NANOSECONDS` or `NAME read ..`, and for those of this crate the median
+//! of their ratios, each of a time and the mean of the other's before and after it, and between
+//! which ratios half of them lie.
 
 use std::env;
 use std::hint::black_box;
@@ -22,15 +22,20 @@ use lru::LruCache;
 
 const HITS: u64 = 10_000;
 
-/// A cache, and what makes all calls of a thread with so many keys, in an order that depends on a
-/// seed.
+/// A cache and its call, and what makes all calls of a thread with so many keys, in an order that
+/// depends on a seed.
 struct System<'a> {
     name: &'static str,
+    called: &'static str,
     call_all: Box<dyn Fn(u64, u64) + Sync + 'a>,
 }
 
 /// A cache whose call returns the value of a key.
-fn system<'a>(name: &'static str, call: impl Fn(u64) -> Option<u64> + Sync + 'a) -> System<'a> {
+fn system<'a>(
+    name: &'static str,
+    called: &'static str,
+    call: impl Fn(u64) -> Option<u64> + Sync + 'a,
+) -> System<'a> {
     let call_all = move |seed: u64, entries| {
         let mut random = seed.wrapping_mul(0x9e37_79b9_7f4a_7c15);
         let mut sum = 0;
@@ -44,6 +49,7 @@ fn system<'a>(name: &'static str, call: impl Fn(u64) -> Option<u64> + Sync + 'a)
     };
     System {
         name,
+        called,
         call_all: Box::new(call_all),
     }
 }
@@ -95,13 +101,15 @@ fn compare(systems: &[System], entries: u64, threads: u64, rounds: u64) {
             before = after;
         }
     }
-    for (System { name, .. }, times) in systems.iter().zip(&mut times) {
-        println!("{name} get {entries} {threads} {:.1}", quantile(times, 0.5));
+    for (System { name, called, .. }, times) in systems.iter().zip(&mut times) {
+        let time = quantile(times, 0.5);
+        println!("{name} {called} {entries} {threads} {time:.1}");
     }
-    for (System { name, .. }, ratios) in systems.iter().zip(&mut ratios).skip(1) {
+    for (System { name, called, .. }, ratios) in systems.iter().zip(&mut ratios).skip(1) {
         let (low, high) = (quantile(ratios, 0.25), quantile(ratios, 0.75));
         println!(
-            "# get {entries} {threads}, {name} to {}: {:.2} (half of them {low:.2} to {high:.2})",
+            "# {called} {entries} {threads}, {name} to {}: {:.2} (half of them {low:.2} to \
+             {high:.2})",
             systems[0].name,
             quantile(ratios, 0.5)
         );
@@ -123,18 +131,27 @@ fn compare_among(entries: u64, rounds: u64) -> Result<(), Refusal> {
     }
     let lru = Mutex::new(lru);
     let systems = [
-        system("mutex-lru", |key| {
+        system("mutex-lru", "get", |key| {
             let value = lru.lock().ok()?.get(&key).cloned()?;
             Some(*value)
         }),
-        system("rust-clock", |key| {
+        system("rust-clock", "get", |key| {
             clock.get(&key).ok()?.map(|handle| *handle)
         }),
-        system("rust-unsharded", |key| {
+        system("rust-clock", "read", |key| {
+            clock.read(&key, |value| *value).ok()?
+        }),
+        system("rust-unsharded", "get", |key| {
             unsharded.get(&key).ok()?.map(|handle| *handle)
         }),
-        system("rust-sharded", |key| {
+        system("rust-unsharded", "read", |key| {
+            unsharded.read(&key, |value| *value).ok()?
+        }),
+        system("rust-sharded", "get", |key| {
             sharded.get(&key).ok()?.map(|handle| *handle)
+        }),
+        system("rust-sharded", "read", |key| {
+            sharded.read(&key, |value| *value).ok()?
         }),
     ];
     for threads in [1, 4] {
