@@ -1,6 +1,7 @@
 //! Tests the cache whose hits take no lock.
 
 use std::cell::RefCell;
+use std::env;
 use std::net::Ipv6Addr;
 use std::num::NonZeroUsize;
 use std::panic::{self, AssertUnwindSafe, RefUnwindSafe, UnwindSafe};
@@ -934,8 +935,13 @@ fn debug_prints_values_and_numbers() -> Result<(), Refusal> {
 }
 
 const THREADS: u64 = 8;
-const CALLS: u64 = 20_000;
 const KEYS: u64 = 150;
+
+/// How many calls a thread of the stress test makes, of which CALLS tells another number for a run
+/// under valgrind.
+fn calls() -> u64 {
+    env::var("CALLS").map_or(20_000, |number| number.parse().expect("CALLS is a number"))
+}
 
 /// What is known of the values of the stress test, by their numbers.
 struct Known {
@@ -994,7 +1000,7 @@ fn stress(
     // A value that is pinned and that nobody invalidates is always found.
     let own = KEYS + thread;
     let _own = cache.get_or_init(&own, 1, |key| Watched::new(known, *key))?;
-    for _ in 0..CALLS {
+    for _ in 0..calls() {
         random = random
             .wrapping_mul(6_364_136_223_846_793_005)
             .wrapping_add(1_442_695_040_888_963_407);
@@ -1053,7 +1059,7 @@ fn stress(
 
 #[test]
 fn no_value_is_dropped_while_held_or_seen_under_another_key() -> Result<(), Refusal> {
-    let most = (2 * THREADS * CALLS) as usize;
+    let most = (2 * THREADS * calls()) as usize;
     let known = Arc::new(Known {
         next: AtomicU64::new(0),
         dropped: (0..most).map(|_| AtomicU32::new(0)).collect(),
