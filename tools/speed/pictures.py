@@ -4,7 +4,7 @@ Draws pictures of what was measured: of lines `SYSTEM WORKLOAD ENTRIES THREADS N
 files, of which the median of each kind counts, and of what hit_ratio wrote in a file *.csv. In
 FOLDER:
 speed-threads.svg  the time of a call of read_mostly by the number of threads
-speed-blocks.svg   the same in C and C++, with caches that have the interface of RocksDB's
+speed-blocks.svg   the same in C, C++ and Rust, with caches that have the interface of RocksDB's
 speed-entries.svg  the time of a hit and of a miss by the number of entries, of one thread
 speed-hits.svg     the time of a call of read_mostly by the hit ratio, in a chart for each capacity:
                    of four threads at the largest, and of one thread at the others
@@ -57,17 +57,23 @@ COLOURS = {
     "c-clock": ("#3d6b00", "#a5d66a"),
     "cpp-clock": ("#00707c", "#4fd0de"),
     "cpp-sharded": ("#6a2bb8", "#c09cf5"),
+    "rust-clock": ("#b4470f", "#ff9d5c"),
+    "rust-sharded": ("#566b1e", "#b9cf70"),
+    "mutex-lru": ("#8b1a1a", "#f28b82"),
     "exact": ("#0b62c4", "#6cb6ff"),
     "clock": ("#0a7a4b", "#5fd6a3"),
 }
 
-# What the picture of caches in C and C++ shows.
-IN_C_AND_CPP = {
+# What the picture of caches in C, C++ and Rust shows.
+OUTSIDE_RATTLE = {
     "c-clock",
     "cpp-clock",
     "cpp-sharded",
     "block-clock",
     "block-exact",
+    "rust-clock",
+    "rust-sharded",
+    "mutex-lru",
     "rocksdb-hyper",
     "rocksdb-sharded",
 }
@@ -102,11 +108,14 @@ CALLED = {
     "sharded": "16 shards",
     "port-clock": "lru_clock",
     "port-clock-1": "lru_clock, one shard",
-    "c-clock": "C, clock",
+    "c-clock": "clock in C, lru.h",
     "cpp-clock": "lru::ClockCache",
     "cpp-sharded": "lru::ShardedCache",
     "block-clock": "NewRocksDBClockCache",
     "block-exact": "NewRocksDBBlockCache",
+    "rust-clock": "clock::Cache in Rust",
+    "rust-sharded": "sharded::LruCache in Rust",
+    "mutex-lru": "Mutex<lru::LruCache> in Rust",
     "hyper": "HyperClock",
     "reserved": "room reserved",
     "exact": "exact order",
@@ -247,12 +256,12 @@ def by_threads(times):
     return Chart("read_mostly", "threads", lines_of(points), "")
 
 
-def in_c_by_threads(times):
-    """The chart of read_mostly in C and C++, by threads."""
+def outside_by_threads(times):
+    """The chart of read_mostly in C, C++ and Rust, by threads."""
     points = [
         (system, threads, ns)
         for (system, work, _, threads), ns in times.items()
-        if work == "read_mostly_16" and system in IN_C_AND_CPP
+        if work == "read_mostly_16" and system in OUTSIDE_RATTLE
     ]
     return Chart("read_mostly", "threads", lines_of(points), "")
 
@@ -453,7 +462,7 @@ def main():
     pictures = {
         "speed-threads.svg": ("Time of a call by threads", [by_threads(times)]),
         "speed-blocks.svg": (
-            "Time of a call by threads, in C and C++", [in_c_by_threads(times)]
+            "Time of a call by threads, in C, C++ and Rust", [outside_by_threads(times)]
         ),
         "speed-entries.svg": ("Time of a call by entries, with one thread and one lock", [
             by_entries(times, "Hit", {"hit_get": "", "hit_read": "-read"}),
