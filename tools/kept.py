@@ -5,8 +5,8 @@
 
 A PATH is a file or a folder of the repository that the command reads. The records are in
 ~/.cache/concurrent_lru, or in $XDG_CACHE_HOME/concurrent_lru, by the name and by a checksum of the
-files, the command, the text and the kit; without them, everything runs again. There is no record of
-a command that has printed "left out:", as one does for each part of it that could not run here.
+files, the command, the text and the kit; without them, everything runs again. A command that prints
+"left out:" of a part that cannot run on this machine is not recorded.
 """
 import hashlib
 import os

@@ -153,7 +153,7 @@ int main(void) {
     in_cache = bytes_in_cache();
     in_clock = bytes_in_clock();
     printf("among %d, an entry takes %zu bytes, and %zu in a clock\n", MANY, in_cache, in_clock);
-    if (in_cache < 100 || in_cache > 180) wrong("an entry takes other memory than it did");
-    if (in_clock < 100 || in_clock > 150) wrong("one of a clock takes other memory than it did");
+    if (in_cache < 100 || in_cache > 180) wrong("an entry takes not 100 to 180 bytes");
+    if (in_clock < 100 || in_clock > 150) wrong("one of a clock takes not 100 to 150 bytes");
     return 0;
 }
